@@ -1,0 +1,8 @@
+// Worked examples of the other crates, run as tests. They stand apart so that a crate is not proved again for them.
+
+#[cfg(test)]
+mod messages;
+#[cfg(test)]
+mod stores;
+#[cfg(test)]
+mod words;

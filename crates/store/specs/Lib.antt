@@ -1,0 +1,6 @@
+pub mod Faults
+pub mod Flats
+pub mod Memory
+pub mod Sparses
+pub mod Splits
+pub mod Stores
