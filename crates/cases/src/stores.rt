@@ -18,6 +18,7 @@ use store::split::Split;
 use store::split::SplitStore;
 use store::split::split_fault;
 use store::store::Store;
+use survey::image::image_fault;
 use wire::refusal::Refusal;
 use wire::refusal::RefusalDebug;
 use wire::refusal::RefusalPartialEq;
@@ -89,6 +90,8 @@ fn each_fault_of_a_sparse_store(rt: LibcRuntime) -> Result<(), Fail> {
         sparse_fault(&[K, V, W, R, K, V, W, R]),
         at(Cause::KeysNotRising, 1),
     )?;
+    check_eq(image_fault(&[K, V, W, R], 0), None)?;
+    check_eq(image_fault(&[K, V, W, R], 3), whole(Cause::PartLine))?;
     let mut bad = [K + 9, V, W, R, K, V, W, R];
     let store = Sparse::new(&mut bad);
     check_eq(store.fetch(9), None)

@@ -20,15 +20,16 @@ use wire::stamp::StampPartialEq;
 use wire::stamp::TOP;
 use wire::value::bits_of;
 use wire::value::value_of;
+use wire::word::StampKind;
 use wire::word::WordFault;
 use wire::word::WordFaultDebug;
 use wire::word::WordFaultPartialEq;
 use wire::word::key_in;
 use wire::word::key_word;
-use wire::word::read_stamp_in;
+use wire::word::stamp_in;
+use wire::word::stamp_word;
 use wire::word::value_in;
 use wire::word::value_word;
-use wire::word::write_stamp_in;
 
 #[test]
 fn values_follow_the_chart() -> Result<(), Fail> {
@@ -80,8 +81,12 @@ fn stamps_end_at_top() -> Result<(), Fail> {
     check_eq(Stamp::from_bound(268_435_455), Some(top))?;
     check_eq(Stamp::from_bound(268_435_456), None)?;
     check_eq(Stamp::from_bound(-1), None)?;
-    check_eq(write_stamp_in(0xEFFF_FFFF), Ok(top))?;
-    check_eq(read_stamp_in(0xEFFF_FFFF), Err(WordFault::WrongKind))
+    check_eq(stamp_in(StampKind::Write, 0xEFFF_FFFF), Ok(top))?;
+    check_eq(
+        stamp_in(StampKind::Read, 0xEFFF_FFFF),
+        Err(WordFault::WrongKind),
+    )?;
+    check_eq(stamp_word(StampKind::Read, top), 0xFFFF_FFFF)
 }
 
 #[test]
@@ -138,7 +143,7 @@ fn refusals_say_their_cause(rt: LibcRuntime) -> Result<(), Fail> {
     check_eq(Refusal::BadStore.number(), 13)?;
     check_eq(
         Refusal::NoSuchKey.to_string(rt.alloc())?.as_str(),
-        "key not in the store",
+        "the store has no such key",
     )
 }
 

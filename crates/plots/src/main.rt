@@ -68,7 +68,7 @@ fn tell<S: Store>(rt: &impl Print, store: &S) -> io::Result<()> {
     let missing = plots.saturating_mul(4).saturating_sub(fields);
     println!(
         rt,
-        "{plots} plots on {grounds} grounds, {fields} fields, {missing} missing"
+        "plots {plots}, grounds {grounds}, fields {fields}, missing {missing}"
     )
 }
 

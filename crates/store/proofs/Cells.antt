@@ -14,10 +14,11 @@ use Rattle.std.specs.declared.option.Option.the-variants.{Some, None}
 use Rattle.std.specs.declared.result.Result.{Result}
 use Rattle.std.specs.declared.result.Result.the-variants.{Ok, Err}
 use Rattle.wire.specs.declared.stamp.Stamp.{Stamp}
+use Rattle.wire.specs.declared.word.StampKind.the-variants.{Write, Read}
 use Rattle.wire.specs.declared.word.WordFault.{WordFault}
 use Rattle.wire.specs.Stamps.{stamp}
 use Rattle.wire.specs.Values.{value-of}
-use Rattle.wire.specs.Words.{kind-of, middle-of, low-of, as-value, value-in, write-stamp-in, read-stamp-in}
+use Rattle.wire.specs.Words.{kind-of, middle-of, low-of, as-value, value-in, stamp-in}
 use Rattle.store.specs.declared.cell.Cell.{Cell}
 use Rattle.store.specs.Memory.{cell-in, cell-at, cell-cause}
 
@@ -62,7 +63,7 @@ stamp-held true s t f h = cc
 stamp-held false s t f h = let z : _≡_ {A = ℕ} 0 1 = cc in absurd (omega arith)
 
 module _ (ws : List ℕ) (p a b c : ℕ) (x : Cell) (h : p + 2 < length ws)
-    (va : value-in a ≡ Ok (x .value)) (wb : write-stamp-in b ≡ Ok (x .write)) (rc : read-stamp-in c ≡ Ok (x .read)) where
+    (va : value-in a ≡ Ok (x .value)) (wb : stamp-in Write b ≡ Ok (x .write)) (rc : stamp-in Read c ≡ Ok (x .read)) where
   -- The words of a cell are read as that cell.
   pub cell-written : cell-at (three ws p a b c) p ≡ x
   cell-written =

@@ -16,39 +16,39 @@ use Rattle.store.specs.declared.memory.Layout.{Layout}
 use Rattle.store.specs.declared.memory.Layout.the-variants.{Bare, Keyed}
 use Rattle.wire.specs.Words.{key-in}
 use Rattle.store.specs.Faults.{first-fault, or-else, cause-in, of-whole}
-use Rattle.store.specs.Memory.{cell-at, cell-cause, with-cell-at, cell-place, lines-in, line-cause, shape-cause}
+use Rattle.store.specs.Memory.{cell-at, cell-cause, with-cell-at, cell-index, lines-in, line-cause, shape-cause}
 use Rattle.store.proofs.Cells.{three-other, length-three}
 use Rattle.store.proofs.Faults.{none-at, none-from}
 
 -- The memory after a cell is written into line i.
 abbrev pub after : Layout → List ℕ → ℕ → Cell → List ℕ
-after l ws i x = with-cell-at ws (cell-place l i) x
+after l ws i x = with-cell-at ws (cell-index l i) x
 
 -- The words of different lines' cells lie apart.
-apart : (l : Layout) (i j d e : ℕ) → j ≢ i → d ≤ 2 → e ≤ 2 → cell-place l j + d ≢ cell-place l i + e
+apart : (l : Layout) (i j d e : ℕ) → j ≢ i → d ≤ 2 → e ≤ 2 → cell-index l j + d ≢ cell-index l i + e
 apart Bare i j d e n h k = λ z. n (omega arith)
 apart Keyed i j d e n h k = λ z. n (omega arith)
 
 module _ (l : Layout) (ws : List ℕ) (i : ℕ) (x : Cell) where
   pub length-after : length (after l ws i x) ≡ length ws
-  length-after = length-three ws (cell-place l i) _ _ _
+  length-after = length-three ws (cell-index l i) _ _ _
 
-  other-word : (j d : ℕ) → j ≢ i → d ≤ 2 → getD (after l ws i x) (cell-place l j + d) 0 ≡ getD ws (cell-place l j + d) 0
+  other-word : (j d : ℕ) → j ≢ i → d ≤ 2 → getD (after l ws i x) (cell-index l j + d) 0 ≡ getD ws (cell-index l j + d) 0
   other-word j d n h =
-      three-other ws (cell-place l i) _ _ _ (cell-place l j + d)
+      three-other ws (cell-index l i) _ _ _ (cell-index l j + d)
       (λ z. apart l i j d 0 n h (omega arith) (omega arith))
       (apart l i j d 1 n h (omega arith))
       (apart l i j d 2 n h (omega arith))
 
-  other-first : (j : ℕ) → j ≢ i → getD (after l ws i x) (cell-place l j) 0 ≡ getD ws (cell-place l j) 0
+  other-first : (j : ℕ) → j ≢ i → getD (after l ws i x) (cell-index l j) 0 ≡ getD ws (cell-index l j) 0
   other-first j n = simp add-zero at (other-word j 0 n (omega arith))
 
   -- Other lines keep their cells.
-  pub other-cell : (j : ℕ) → j ≢ i → cell-at (after l ws i x) (cell-place l j) ≡ cell-at ws (cell-place l j)
+  pub other-cell : (j : ℕ) → j ≢ i → cell-at (after l ws i x) (cell-index l j) ≡ cell-at ws (cell-index l j)
   other-cell j n = rw (other-first j n, other-word j 1 n (omega arith), other-word j 2 n (omega arith)) refl
 
   -- Other lines keep what is wrong with their cells.
-  other-cause : (j : ℕ) → j ≢ i → cell-cause (after l ws i x) (cell-place l j) ≡ cell-cause ws (cell-place l j)
+  other-cause : (j : ℕ) → j ≢ i → cell-cause (after l ws i x) (cell-index l j) ≡ cell-cause ws (cell-index l j)
   other-cause j n = rw (other-first j n, other-word j 1 n (omega arith), other-word j 2 n (omega arith)) refl
 
 -- Every line of four words keeps its key word.
@@ -65,7 +65,7 @@ second-none (Some c) b e = let z : _≡_ {A = ℕ} 0 1 = cc in absurd (omega ari
 second-none None b e = e
 
 -- A line that had no fault has none after a sound cell is written, be it there or elsewhere.
-line-kept : (l : Layout) (ws : List ℕ) (i : ℕ) (x : Cell) → cell-cause (after l ws i x) (cell-place l i) ≡ None
+line-kept : (l : Layout) (ws : List ℕ) (i : ℕ) (x : Cell) → cell-cause (after l ws i x) (cell-index l i) ≡ None
     → (j : ℕ) → line-cause l ws j ≡ None → line-cause l (after l ws i x) j ≡ None
 line-kept Bare ws i x s j e =
     ⊎-elim (λ (z : j ≡ i). rw z s) (λ (z : j ≡ i → ⊥). other-cause Bare ws i x j z ∙ e) (cases-eq j i)
@@ -78,7 +78,7 @@ line-kept Keyed ws i x s j e =
     rw (other-key ws i x j, other-key ws i x (j - 1), key, cell) (second-none (cell-cause ws (4 * j + 1)) _ rest)
 
 -- Lines without a fault stay so.
-pub lines-kept : (l : Layout) (ws : List ℕ) (i : ℕ) (x : Cell) → cell-cause (after l ws i x) (cell-place l i) ≡ None
+pub lines-kept : (l : Layout) (ws : List ℕ) (i : ℕ) (x : Cell) → cell-cause (after l ws i x) (cell-index l i) ≡ None
     → first-fault (line-cause l ws) 0 (lines-in l ws) ≡ None
     → first-fault (line-cause l (after l ws i x)) 0 (lines-in l (after l ws i x)) ≡ None
 lines-kept l ws i x s e =

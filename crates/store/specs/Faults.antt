@@ -1,5 +1,5 @@
 -- Faults of stores.
---   words-of c           what a cause says
+--   cause-text c         what a cause says
 --   cause-of f           the cause of a word's fault
 --   first-fault f i n    the first fault of the n lines from line i on, where f i is what is wrong with line i, if anything
 use Prim.Native.Nat.{ℕ, zero, suc, _+_}
@@ -24,14 +24,14 @@ use Rattle.store.specs.declared.fault.Cause.the-variants.{
 use Rattle.store.specs.declared.fault.Fault.{Fault}
 
 -- What each cause says.
-abbrev pub words-of : Cause → List ℕ
-words-of PartLine = codes "part of a line"
-words-of TooMany = codes "too many lines"
-words-of GroundAbove7 = codes "ground above 7"
-words-of WrongKind = codes "word of a wrong kind"
-words-of StrayBits = codes "stray bits"
-words-of KeysNotRising = codes "keys not rising"
-words-of BoundaryAbove8 = codes "boundary above 8"
+abbrev pub cause-text : Cause → List ℕ
+cause-text PartLine = codes "the words end within a line"
+cause-text TooMany = codes "there are too many lines"
+cause-text GroundAbove7 = codes "the ground is above 7"
+cause-text WrongKind = codes "a word is of a wrong kind"
+cause-text StrayBits = codes "a word has stray bits"
+cause-text KeysNotRising = codes "the keys do not rise"
+cause-text BoundaryAbove8 = codes "the boundary is above 8"
 
 -- A word's fault is the store's.
 abbrev pub cause-of : WordFault → Cause

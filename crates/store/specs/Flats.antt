@@ -2,7 +2,7 @@
 --   flat-fault g ws    the first fault of the memory ws as a flat store of ground g
 --   flat-means g ws    the cells that the memory means
 --   cells-of s, fault-of s   the cells of a store, and the fault of its memory
-use Prim.Native.Nat.{ℕ, _*_, _%_}
+use Prim.Native.Nat.{ℕ, _%_}
 use mathlib.Core.Bool.{Bool, cond, _&&_, not}
 use mathlib.Core.List.{List}
 use denote.Ref.{now}
@@ -16,7 +16,7 @@ use Rattle.store.specs.declared.fault.Fault.{Fault}
 use Rattle.store.specs.declared.memory.flat.Flat.{Flat}
 use Rattle.store.specs.declared.memory.Layout.the-variants.{Bare}
 use Rattle.store.specs.Faults.{of-whole, first-fault}
-use Rattle.store.specs.Memory.{cell-at, lines-in, line-cause, shape-cause}
+use Rattle.store.specs.Memory.{cell-at, cell-index, lines-in, line-cause, shape-cause}
 use Rattle.store.specs.Stores.{Cells}
 
 -- The length of memory first, then the ground, then the lines from the first.
@@ -31,7 +31,7 @@ flat-has good g ws k = good && (eqb (ground-of k) g && ltb (k % 8192) (lines-in 
 
 -- The cell of each of these keys is that of its line.
 abbrev pub flat-cells : Bool → ℕ → List ℕ → Cells
-flat-cells good g ws k = cond (flat-has good g ws k) (Some (cell-at ws (3 * (k % 8192)))) None
+flat-cells good g ws k = cond (flat-has good g ws k) (Some (cell-at ws (cell-index Bare (k % 8192)))) None
 
 -- What memory means as a ground's flat store: it is good where it has no fault.
 abbrev pub flat-means : ℕ → List ℕ → Cells

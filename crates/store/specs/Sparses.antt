@@ -3,7 +3,7 @@
 --   sparse-means ws    the cells that the memory means: those of the keys that its lines name
 --   sought ws k        the line that halving finds for the key k; of rising keys it is the line that has the key
 --   cells-of s, fault-of s   the cells of a store, and the fault of its memory
-use Prim.Native.Nat.{ℕ, zero, suc, _+_, _*_, _-_, _/_}
+use Prim.Native.Nat.{ℕ, zero, suc, _+_, _-_, _/_}
 use mathlib.Core.Bool.{Bool, cond, not}
 use mathlib.Core.List.{List}
 use denote.Ref.{now}
@@ -16,7 +16,7 @@ use Rattle.store.specs.declared.fault.Fault.{Fault}
 use Rattle.store.specs.declared.memory.Layout.the-variants.{Keyed}
 use Rattle.store.specs.declared.memory.sparse.Sparse.{Sparse}
 use Rattle.store.specs.Faults.{of-whole, first-fault}
-use Rattle.store.specs.Memory.{cell-at, line-key, lines-in, line-cause, shape-cause}
+use Rattle.store.specs.Memory.{cell-at, cell-index, line-key, lines-in, line-cause, shape-cause}
 use Rattle.store.specs.Stores.{Cells}
 
 -- The length of memory first, then the lines from the first.
@@ -25,7 +25,7 @@ sparse-fault ws = of-whole (shape-cause Keyed ws) (first-fault (line-cause Keyed
 
 -- The cell of line i.
 abbrev pub line-cell : List ℕ → ℕ → Cell
-line-cell ws i = cell-at ws (4 * i + 1)
+line-cell ws i = cell-at ws (cell-index Keyed i)
 
 -- The line among the first n that names the key k.
 abbrev pub line-naming : List ℕ → ℕ → ℕ → Option ℕ

@@ -2,7 +2,7 @@ ghost use mathlib.Core.Path.{_≡_};
 ghost use denote.Ref.{now};
 ghost use Rattle.std.specs.declared.option.Option.the-variants.{Some};
 ghost use Rattle.wire.specs.declared.refusal.Refusal.the-variants.{BadStore};
-ghost use Rattle.store.specs.Faults.{words-of};
+ghost use Rattle.store.specs.Faults.{cause-text};
 use std::fmt;
 use wire::refusal::Refusal;
 
@@ -26,27 +26,27 @@ pub struct Fault {
 }
 
 impl Cause {
-    // The cause in words.
-    pub fn words(self) -> &'static str
-        ensures { λ r. ⌜ now r ≡ words-of self ⌝ }
+    // The cause as a text.
+    pub fn text(self) -> &'static str
+        ensures { λ r. ⌜ now r ≡ cause-text self ⌝ }
     {
         match self {
-            Cause::PartLine => "part of a line",
-            Cause::TooMany => "too many lines",
-            Cause::GroundAbove7 => "ground above 7",
-            Cause::WrongKind => "word of a wrong kind",
-            Cause::StrayBits => "stray bits",
-            Cause::KeysNotRising => "keys not rising",
-            Cause::BoundaryAbove8 => "boundary above 8",
+            Cause::PartLine => "the words end within a line",
+            Cause::TooMany => "there are too many lines",
+            Cause::GroundAbove7 => "the ground is above 7",
+            Cause::WrongKind => "a word is of a wrong kind",
+            Cause::StrayBits => "a word has stray bits",
+            Cause::KeysNotRising => "the keys do not rise",
+            Cause::BoundaryAbove8 => "the boundary is above 8",
         }
     }
 }
 
 pub impl fmt::Display for Cause as CauseDisplay {
-    ghost shown = { λ c. Some (words-of c) };
+    ghost shown = { λ c. Some (cause-text c) };
 
     fn fmt<W: fmt::Write>(&self, f: &mut fmt::Formatter<W>) -> fmt::Result {
-        f.write_str(self.words())
+        f.write_str(self.text())
     }
 }
 

@@ -10,14 +10,13 @@ use crate::fault::Cause;
 use crate::fault::Fault;
 use wire::stamp::Stamp;
 use wire::value::value_of;
+use wire::word::StampKind;
 use wire::word::WordFault;
 use wire::word::key_in;
-use wire::word::read_stamp_in;
-use wire::word::read_stamp_word;
+use wire::word::stamp_in;
+use wire::word::stamp_word;
 use wire::word::value_in;
 use wire::word::value_word;
-use wire::word::write_stamp_in;
-use wire::word::write_stamp_word;
 
 pub mod flat;
 pub mod sparse;
@@ -62,7 +61,7 @@ fn cause_of(fault: WordFault) -> Cause
     }
 }
 
-// The cell in the three words at a place.
+// The cell in the three words at an index.
 fn cell_at(words: &[u32], at: usize) -> Cell
     requires { ⌜ at + 2 < length (now words) ⌝ }
     ensures { λ r. ⌜ r ≡ cell-at (now (words .entry)) at ⌝ }
@@ -74,7 +73,7 @@ fn cell_at(words: &[u32], at: usize) -> Cell
     }
 }
 
-// Writes a cell into the three words at a place.
+// Writes a cell into the three words at an index.
 fn put_cell(words: &mut [u32], at: usize, cell: Cell)
     requires { ⌜ at + 2 < length (now words) ⌝ }
     ensures words { λ _. ⌜ now (words .exit) ≡ with-cell-at (now (words .entry)) at cell ⌝ }
@@ -82,8 +81,8 @@ fn put_cell(words: &mut [u32], at: usize, cell: Cell)
     ensures sound { λ _. ⌜ cell-cause (now (words .exit)) at ≡ None ⌝ }
 {
     words[at] = value_word(cell.value);
-    words[at + 1] = write_stamp_word(cell.write);
-    words[at + 2] = read_stamp_word(cell.read);
+    words[at + 1] = stamp_word(StampKind::Write, cell.write);
+    words[at + 2] = stamp_word(StampKind::Read, cell.read);
 }
 
 // What is wrong with the three words of a cell.
@@ -94,10 +93,10 @@ fn cell_cause(words: &[u32], at: usize) -> Option<Cause>
     if let Err(fault) = value_in(words[at]) {
         return Some(cause_of(fault));
     }
-    if let Err(fault) = write_stamp_in(words[at + 1]) {
+    if let Err(fault) = stamp_in(StampKind::Write, words[at + 1]) {
         return Some(cause_of(fault));
     }
-    match read_stamp_in(words[at + 2]) {
+    match stamp_in(StampKind::Read, words[at + 2]) {
         Err(fault) => Some(cause_of(fault)),
         Ok(_) => None,
     }

@@ -1,8 +1,7 @@
-ghost use lib.Dec.{ltb};
-ghost use mathlib.Core.List.{_++_};
 ghost use mathlib.Core.Path.{_≡_};
-ghost use Rattle.wire.specs.Keys.{ground-of};
-ghost use Rattle.store.specs.Splits.{split-cells, split-fault};
+ghost use Rattle.std.specs.Orderings.{When};
+ghost use Rattle.store.specs.Stores.{Put, Refuses};
+ghost use Rattle.store.specs.Splits.{split-fault, goes-left, cells-of, both-sound, both-lent, OneSide};
 use crate::cell::Cell;
 use crate::fault::Cause;
 use crate::fault::Fault;
@@ -47,16 +46,18 @@ impl<L, R> Split<L, R> {
 
     // Whether a key's ground is the left store's.
     fn goes_left(&self, key: u16) -> bool
-        ensures { λ r. ⌜ r ≡ ltb (ground-of key) (now (self .entry) .boundary) ⌝ }
+        ensures { λ r. ⌜ r ≡ goes-left (now (self .entry)) key ⌝ }
     {
         key / 8192 < self.boundary
     }
 }
 
 pub impl<L: Store, R: Store> Store for Split<L, R> as SplitStore {
-    ghost cells = { λ s. split-cells (s .boundary) (L·Store .cells (s .left)) (R·Store .cells (s .right)) };
+    ghost cells = { λ s. cells-of (L·Store .cells) (R·Store .cells) s };
 
-    ghost lent = { λ s. L·Store .lent (s .left) ++ R·Store .lent (s .right) };
+    ghost sound = { λ s. both-sound (L·Store .sound) (R·Store .sound) s };
+
+    ghost lent = { λ s. both-lent (L·Store .lent) (R·Store .lent) s };
 
     fn fetch(&self, key: u16) -> Option<Cell> {
         if self.goes_left(key) {
@@ -66,7 +67,15 @@ pub impl<L: Store, R: Store> Store for Split<L, R> as SplitStore {
         }
     }
 
-    fn put(&mut self, key: u16, cell: Cell) -> Result<(), Refusal> {
+    // Only the store on the key's side changes.
+    fn put(&mut self, key: u16, cell: Cell) -> Result<(), Refusal>
+        ensures put { λ r. ⌜ Put (cells-of (L·Store .cells) (R·Store .cells) (now (self .entry))) (cells-of (L·Store .cells) (R·Store .cells) (now (self .exit))) key cell r ⌝ }
+        ensures refused { λ r. ⌜ Refuses r (now (self .exit) ≡ now (self .entry)) ⌝ }
+        ensures sound { λ _. ⌜ (both-sound (L·Store .sound) (R·Store .sound) (now (self .entry)) → both-sound (L·Store .sound) (R·Store .sound) (now (self .exit))) ⌝ }
+        ensures lent { λ _. ⌜ both-lent (L·Store .lent) (R·Store .lent) (now (self .exit)) ≡ both-lent (L·Store .lent) (R·Store .lent) (now (self .entry)) ⌝ }
+        ensures boundary { λ _. ⌜ now (self .exit) .boundary ≡ now (self .entry) .boundary ⌝ }
+        ensures sides { λ r. ⌜ When (goes-left (now (self .entry)) key) (OneSide (L·Store .cells (now (self .entry) .left)) (L·Store .cells (now (self .exit) .left)) key cell r (now (self .entry) .right) (now (self .exit) .right)) (OneSide (R·Store .cells (now (self .entry) .right)) (R·Store .cells (now (self .exit) .right)) key cell r (now (self .entry) .left) (now (self .exit) .left)) ⌝ }
+    {
         if self.goes_left(key) {
             self.left.put(key, cell)
         } else {

@@ -15,6 +15,9 @@ pub trait Store {
     // The names of the memory that it was lent, which no call changes.
     ghost lent: { Self → List ℕ };
 
+    // Its memory is as its check wants it, which every put keeps.
+    ghost sound: { Self → Type 0 };
+
     // The cell of a key, or nothing exactly where the key is not in the set.
     fn fetch(&self, key: u16) -> Option<Cell>
         ensures { λ r. ⌜ r ≡ cells (now (self .entry)) key ⌝ };
@@ -23,5 +26,6 @@ pub trait Store {
     fn put(&mut self, key: u16, cell: Cell) -> Result<(), Refusal>
         ensures put { λ r. ⌜ Put (cells (now (self .entry))) (cells (now (self .exit))) key cell r ⌝ }
         ensures refused { λ r. ⌜ Refuses r (now (self .exit) ≡ now (self .entry)) ⌝ }
+        ensures sound { λ _. ⌜ (sound (now (self .entry)) → sound (now (self .exit))) ⌝ }
         ensures lent { λ _. ⌜ lent (now (self .exit)) ≡ lent (now (self .entry)) ⌝ };
 }

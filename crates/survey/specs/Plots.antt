@@ -1,7 +1,7 @@
 -- What a store holds of a plot.
 --   field-value m g n f   the value at ground g, plot n and field f in the cells m, or nothing
 --   plot-in m g n         the four of them
-use Prim.Native.Nat.{ℕ, _+_, _*_}
+use Prim.Native.Nat.{ℕ, _+_}
 use mathlib.Core.Bool.{cond, _&&_}
 use lib.Dec.{ltb}
 use lib.IntN.{ℤ}
@@ -10,14 +10,14 @@ use Rattle.std.specs.declared.option.Option.{Option}
 use Rattle.std.specs.declared.option.Option.the-variants.{None}
 use Rattle.wire.specs.declared.place.Field.{Field}
 use Rattle.wire.specs.declared.place.Field.the-variants.{East, North, Holder, Status}
-use Rattle.wire.specs.Keys.{field-number}
+use Rattle.wire.specs.Keys.{key-at}
 use Rattle.store.specs.Stores.{Cells}
 use Rattle.survey.specs.declared.plot.Plot.{Plot}
 
 -- The value of a field of a plot; no cell has a ground above 7 or a plot above 2,047.
 abbrev pub field-value : Cells → ℕ → ℕ → Field → Option ℤ
 field-value m g n f =
-    cond (ltb g 8 && ltb n 2048) (mapped (λ c. c .value) (m (8192 * g + 4 * n + field-number f))) None
+    cond (ltb g 8 && ltb n 2048) (mapped (λ c. c .value) (m (key-at g n f))) None
 
 -- All four fields.
 abbrev pub plot-in : Cells → ℕ → ℕ → Plot

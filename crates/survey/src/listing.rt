@@ -1,14 +1,37 @@
+ghost use mathlib.Core.Path.{_≡_};
+ghost use Rattle.std.specs.Options.{mapped};
+ghost use Rattle.survey.specs.declared.offset.Direction.the-variants.{East, West, North, South};
+ghost use Rattle.survey.specs.Offsets.{told};
 use crate::offset::Offset;
-use crate::offset::OffsetDisplay;
 use crate::plot::Plot;
 use std::fmt;
 
-// A plot with its number, as a line of text.
+// A plot with its ground and number, as a line of text. No contract speaks of columns, so what it prints is tested.
 #[derive(Clone, Copy)]
 pub struct Listing {
     pub ground: u16,
     pub number: u16,
     pub plot: Plot,
+}
+
+// What the field east says, where it is there.
+fn east(value: Option<i16>) -> Option<Offset>
+    ensures { λ r. ⌜ r ≡ mapped (told East West) value ⌝ }
+{
+    match value {
+        Some(value) => Some(Offset::east(value)),
+        None => None,
+    }
+}
+
+// What the field north says, where it is there.
+fn north(value: Option<i16>) -> Option<Offset>
+    ensures { λ r. ⌜ r ≡ mapped (told North South) value ⌝ }
+{
+    match value {
+        Some(value) => Some(Offset::north(value)),
+        None => None,
+    }
 }
 
 // An offset, or that it is missing, in a column of fourteen places.
@@ -18,7 +41,12 @@ fn write_offset<W: fmt::Write>(
     missing: &str,
 ) -> fmt::Result {
     match offset {
-        Some(offset) => write!(f, "  {offset}"),
+        Some(offset) => {
+            let metres = offset.metres;
+            let decimetres = offset.decimetres;
+            let direction = offset.direction.name();
+            write!(f, "  {metres:>4}.{decimetres} m {direction:<5}")
+        }
         None => write!(f, "  {missing:<14}"),
     }
 }
@@ -32,20 +60,6 @@ fn write_number<W: fmt::Write>(
     match number {
         Some(number) => write!(f, "  {name} {number:>7}"),
         None => write!(f, "  {name} missing"),
-    }
-}
-
-fn east(value: Option<i16>) -> Option<Offset> {
-    match value {
-        Some(value) => Some(Offset::east(value)),
-        None => None,
-    }
-}
-
-fn north(value: Option<i16>) -> Option<Offset> {
-    match value {
-        Some(value) => Some(Offset::north(value)),
-        None => None,
     }
 }
 

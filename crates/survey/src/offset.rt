@@ -1,10 +1,9 @@
 ghost use mathlib.Core.Path.{_≡_};
 ghost use denote.Ref.{now};
-ghost use Rattle.std.specs.declared.option.Option.the-variants.{Some};
 ghost use Rattle.survey.specs.declared.offset.Direction.the-variants.{East, West, North, South};
 ghost use Rattle.survey.specs.Offsets.{told, value-told, name-of};
-use std::fmt;
 
+// Where a grave lies from the chapel door, along one of two lines.
 #[derive(Clone, Copy, PartialEq, Eq, Debug)]
 pub enum Direction {
     East,
@@ -63,14 +62,5 @@ impl Direction {
             Direction::North => "north",
             Direction::South => "south",
         }
-    }
-}
-
-pub impl fmt::Display for Offset as OffsetDisplay {
-    fn fmt<W: fmt::Write>(&self, f: &mut fmt::Formatter<W>) -> fmt::Result {
-        let metres = self.metres;
-        let decimetres = self.decimetres;
-        let direction = self.direction.name();
-        write!(f, "{metres:>4}.{decimetres} m {direction:<5}")
     }
 }

@@ -7,8 +7,9 @@ use Rattle.std.proofs.shelf.Bits.{div-mul-add, mod-mul-add}
 use Rattle.std.proofs.shelf.Tests.{cond-true, eq-eqb}
 use Rattle.std.specs.declared.result.Result.the-variants.{Ok}
 use Rattle.wire.specs.declared.stamp.Stamp.{Stamp}
+use Rattle.wire.specs.declared.word.StampKind.{StampKind}
 use Rattle.wire.specs.Stamps.{stamp}
-use Rattle.wire.specs.Words.{stamp-under, word-of}
+use Rattle.wire.specs.Words.{stamp-in, stamp-kind, stamp-word}
 
 -- Two stamps of one number are the same: that it is at most TOP has one proof.
 pub same-stamp : (a b : Stamp) → a .number ≡ b .number → a ≡ b
@@ -21,9 +22,9 @@ same-stamp a b e =
 pub stamp-is : (n : ℕ) (a : Stamp) → a .number ≡ n → a ≡ stamp n
 stamp-is n a e = same-stamp a (stamp n) (let h = a .within in omega arith)
 
--- A stamp's word of any kind is read as that stamp.
-pub stamp-back : (n : ℕ) (a : Stamp) → stamp-under n (word-of n (a .number)) ≡ Ok a
-stamp-back n a =
+-- A stamp's word is read as that stamp.
+pub stamp-back : (k : StampKind) (a : Stamp) → stamp-in k (stamp-word k a) ≡ Ok a
+stamp-back k a =
     let h : a .number < 268435456 = let w = a .within in omega arith in
-    cond-true _ _ _ (eq-eqb _ _ (div-mul-add n 268435456 (a .number) h))
-    ∙ ap Ok (sym (stamp-is _ a (sym (mod-mul-add n 268435456 (a .number) h))))
+    cond-true _ _ _ (eq-eqb _ _ (div-mul-add (stamp-kind k) 268435456 (a .number) h))
+    ∙ ap Ok (sym (stamp-is _ a (sym (mod-mul-add (stamp-kind k) 268435456 (a .number) h))))

@@ -1,6 +1,6 @@
 -- A key has sixteen bits: the ground in bits 15 to 13, the plot in bits 12 to 2, the field in bits 1 and 0.
 --   ground-of k, plot-of k, field-of k   the three parts of the key k
---   key-of p                             the key of the place p
+--   key-at g n f, key-of p               the key of ground g, plot n and field f; that of the place p
 --   Names k p                            the parts of the key k are those of the place p
 use Prim.Native.Nat.{ℕ, _+_, _*_, _/_, _%_, _<_}
 use mathlib.Core.Bool.{cond}
@@ -34,9 +34,13 @@ field-of k =
     (cond (eqb (k % 4) 1) North
     (cond (eqb (k % 4) 2) Holder Status))
 
--- The key of a place: ground, plot and field side by side.
+-- The key of a ground's plot and field: the three side by side.
+abbrev pub key-at : ℕ → ℕ → Field → ℕ
+key-at g n f = 8192 * g + 4 * n + field-number f
+
+-- The key of a place.
 abbrev pub key-of : Place → ℕ
-key-of p = 8192 * p .ground + 4 * p .plot + field-number (p .field)
+key-of p = key-at (p .ground) (p .plot) (p .field)
 
 -- The parts of the key k are those of the place p.
 pub record Names (k : ℕ) (p : Place) : Type 0 where

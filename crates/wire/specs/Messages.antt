@@ -19,6 +19,7 @@ use Rattle.std.specs.declared.result.Result.{Result}
 use Rattle.std.specs.declared.result.Result.the-variants.{Ok, Err}
 use Rattle.wire.specs.declared.message.Message.{Message}
 use Rattle.wire.specs.declared.message.Message.the-variants.{Begin, Read, Prewrite, Validate, Decide, Withdraw, Settle}
+use Rattle.wire.specs.declared.message.MessageWords.{MessageWords}
 use Rattle.wire.specs.declared.refusal.Refusal.{Refusal}
 use Rattle.wire.specs.declared.refusal.Refusal.the-variants.{Malformed}
 use Rattle.wire.specs.declared.word.WordFault.{WordFault}
@@ -106,14 +107,14 @@ abbrev pub reading : List ℕ → Result Said Refusal × ℕ
 reading ws = answered (first-message ws) ws
 
 -- What the code's answer says.
-abbrev pub told : Result Message Refusal → Result Said Refusal
-told (Ok m) = Ok (said m)
-told (Err e) = Err e
+abbrev pub said-in : Result Message Refusal → Result Said Refusal
+said-in (Ok m) = Ok (said m)
+said-in (Err e) = Err e
 
 -- What the code's message and its count of words say.
-abbrev pub told-first : Option (Message × ℕ) → Option (Said × ℕ)
-told-first (Some p) = Some (said (p .0), p .1)
-told-first None = None
+abbrev pub said-first : Option (Message × ℕ) → Option (Said × ℕ)
+said-first (Some p) = Some (said (p .0), p .1)
+said-first None = None
 
 -- A head word.
 abbrev pub head-word : ℕ → ℕ → ℕ → ℕ
@@ -138,6 +139,10 @@ pairs-of (validates t g) = []
 pairs-of (decides t) = []
 pairs-of (withdraws t) = []
 pairs-of (settles t g) = []
+
+-- The words that writing answers, one after another.
+abbrev pub listed : MessageWords → List ℕ
+listed w = w .head ∷ now (w .pairs)
 
 -- A message that words can say: a transaction of twelve bits, an argument of sixteen, and good pairs in a good number.
 abbrev pub sayable : Said → Bool

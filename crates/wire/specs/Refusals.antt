@@ -1,6 +1,6 @@
--- The one table of refusals: each has a number and a cause in words.
---   number-of r   the number that a refusal answers
---   cause-of r    the bytes of the text that says why
+-- The one table of refusals: each has a number and a text.
+--   number-of r      the number that a refusal answers
+--   refusal-text r   the bytes of the text that says why
 use Prim.Native.Nat.{ℕ}
 use lib.Chars.{codes}
 use mathlib.Core.List.{List}
@@ -38,17 +38,17 @@ number-of Malformed = 12
 number-of BadStore = 13
 
 -- What each refusal says.
-abbrev pub cause-of : Refusal → List ℕ
-cause-of BadNumber = codes "number not above all begun, or not 1 to 4,095"
-cause-of NoRoom = codes "a book has too few free lines"
-cause-of NeverBegun = codes "transaction never begun"
-cause-of AlreadyDecided = codes "transaction already decided"
-cause-of NotRunning = codes "its row here is not Running"
-cause-of NoRow = codes "it has no row here"
-cause-of ReadAfterPrewrite = codes "a read after its first prewrite"
-cause-of StillRunning = codes "a row of it is still Running"
-cause-of NotDecided = codes "transaction not decided yet"
-cause-of AlreadySettled = codes "its row is Committed or Aborted already"
-cause-of NoSuchKey = codes "key not in the store"
-cause-of Malformed = codes "malformed message"
-cause-of BadStore = codes "bad store"
+abbrev pub refusal-text : Refusal → List ℕ
+refusal-text BadNumber = codes "the number is not from 1 to 4,095, or not above every number begun before"
+refusal-text NoRoom = codes "a book cannot take all the lines that the call would write"
+refusal-text NeverBegun = codes "the transaction was never begun"
+refusal-text AlreadyDecided = codes "the transaction is decided already"
+refusal-text NotRunning = codes "the transaction has a row at this ground that is not Running"
+refusal-text NoRow = codes "the transaction has no row at this ground"
+refusal-text ReadAfterPrewrite = codes "the transaction has prewritten before"
+refusal-text StillRunning = codes "a row of the transaction is still Running"
+refusal-text NotDecided = codes "the transaction is not decided yet"
+refusal-text AlreadySettled = codes "the row is Committed or Aborted already"
+refusal-text NoSuchKey = codes "the store has no such key"
+refusal-text Malformed = codes "the words begin with no message"
+refusal-text BadStore = codes "this makes no good store"

@@ -1,6 +1,6 @@
--- A word has 32 bits, and its top four are its kind. These are the words that stores are made of.
---   key-word, value-word, write-stamp-word, read-stamp-word   the word of kind 8, 9, E, F
---   key-in, value-in, write-stamp-in, read-stamp-in           what such a word holds, or what is wrong with it
+-- A word has 32 bits, and its top four are its kind. These are the words that stores and answers are made of.
+--   key-word, value-word, stamp-word   the word of a key, a value, a stamp
+--   key-in, value-in, stamp-in         what such a word holds, or what is wrong with it
 use Prim.Native.Nat.{ℕ, _+_, _*_, _/_, _%_}
 use mathlib.Core.Bool.{cond}
 use lib.Dec.{eqb}
@@ -8,6 +8,8 @@ use lib.IntN.{ℤ}
 use Rattle.std.specs.declared.result.Result.{Result}
 use Rattle.std.specs.declared.result.Result.the-variants.{Ok, Err}
 use Rattle.wire.specs.declared.stamp.Stamp.{Stamp}
+use Rattle.wire.specs.declared.word.StampKind.{StampKind}
+use Rattle.wire.specs.declared.word.StampKind.the-variants.{Answer, Write, Read}
 use Rattle.wire.specs.declared.word.WordFault.{WordFault}
 use Rattle.wire.specs.declared.word.WordFault.the-variants.{WrongKind, StrayBits}
 use Rattle.wire.specs.Stamps.{stamp}
@@ -33,10 +35,6 @@ word-of n b = n * 268435456 + b
 abbrev pub low-half : ℕ → ℕ → Result ℕ WordFault
 low-half n w = cond (eqb (kind-of w) n) (cond (eqb (middle-of w) 0) (Ok (low-of w)) (Err StrayBits)) (Err WrongKind)
 
--- The stamp in bits 27 to 0 of a word of kind n.
-abbrev pub stamp-under : ℕ → ℕ → Result Stamp WordFault
-stamp-under n w = cond (eqb (kind-of w) n) (Ok (stamp (w % 268435456))) (Err WrongKind)
-
 -- What sixteen bits stand for as a value.
 abbrev pub as-value : Result ℕ WordFault → Result ℤ WordFault
 as-value (Ok n) = Ok (value-of n)
@@ -50,13 +48,15 @@ key-word k = word-of 8 k
 abbrev pub value-word : ℤ → ℕ
 value-word v = word-of 9 (bits-of v)
 
--- The word of a write stamp.
-abbrev pub write-stamp-word : Stamp → ℕ
-write-stamp-word s = word-of 14 (s .number)
+-- The kinds of words with a stamp: B, E and F.
+abbrev pub stamp-kind : StampKind → ℕ
+stamp-kind Answer = 11
+stamp-kind Write = 14
+stamp-kind Read = 15
 
--- The word of a read stamp.
-abbrev pub read-stamp-word : Stamp → ℕ
-read-stamp-word s = word-of 15 (s .number)
+-- The word of a stamp.
+abbrev pub stamp-word : StampKind → Stamp → ℕ
+stamp-word k s = word-of (stamp-kind k) (s .number)
 
 -- The key in a word.
 abbrev pub key-in : ℕ → Result ℕ WordFault
@@ -66,10 +66,6 @@ key-in w = low-half 8 w
 abbrev pub value-in : ℕ → Result ℤ WordFault
 value-in w = as-value (low-half 9 w)
 
--- The write stamp in a word.
-abbrev pub write-stamp-in : ℕ → Result Stamp WordFault
-write-stamp-in w = stamp-under 14 w
-
--- The read stamp in a word.
-abbrev pub read-stamp-in : ℕ → Result Stamp WordFault
-read-stamp-in w = stamp-under 15 w
+-- The stamp in bits 27 to 0 of a word.
+abbrev pub stamp-in : StampKind → ℕ → Result Stamp WordFault
+stamp-in k w = cond (eqb (kind-of w) (stamp-kind k)) (Ok (stamp (w % 268435456))) (Err WrongKind)

@@ -2,13 +2,15 @@ ghost use mathlib.Core.List.{_∷_};
 ghost use mathlib.Core.Path.{_≡_};
 ghost use Rattle.std.specs.Vec.{listOf};
 ghost use Rattle.wire.specs.Answers.{answer-words};
-ghost use Rattle.wire.specs.Words.{word-of};
+ghost use Rattle.wire.specs.Words.{stamp-word};
 use crate::refusal::Refusal;
 use crate::refusal::RefusalDebug;
 use crate::refusal::RefusalPartialEq;
 use crate::stamp::Stamp;
 use crate::stamp::StampDebug;
 use crate::stamp::StampPartialEq;
+use crate::word::StampKind;
+use crate::word::stamp_word;
 use crate::word::value_word;
 
 // What a message is answered. `pairs` counts the pairs of a prewrite that stood, and is 0 after any other message.
@@ -29,11 +31,11 @@ pub struct AnswerWords {
     pub second: Option<u32>,
 }
 
-// The word of kind B for a stamp.
-fn stamp_word(stamp: Stamp) -> u32
-    ensures { λ r. ⌜ r ≡ word-of 11 (stamp .number) ⌝ }
+// The word of a stamp in an answer.
+fn told(stamp: Stamp) -> u32
+    ensures { λ r. ⌜ r ≡ stamp-word StampKind.Answer stamp ⌝ }
 {
-    0xB000_0000 + stamp.number()
+    stamp_word(StampKind::Answer, stamp)
 }
 
 impl Answer {
@@ -49,17 +51,17 @@ impl Answer {
             Answer::Value { value, stamp } => {
                 AnswerWords {
                     first: value_word(value),
-                    second: Some(stamp_word(stamp)),
+                    second: Some(told(stamp)),
                 }
             }
             Answer::Range { lower, upper } => {
                 AnswerWords {
-                    first: stamp_word(lower),
-                    second: Some(stamp_word(upper)),
+                    first: told(lower),
+                    second: Some(told(upper)),
                 }
             }
             Answer::Committed { stamp } => AnswerWords {
-                first: stamp_word(stamp),
+                first: told(stamp),
                 second: None,
             },
             Answer::Aborted => AnswerWords {

@@ -7,15 +7,11 @@ ghost use Prim.Native.Nat.{_+_, _<_, _≤_};
 ghost use Rattle.std.specs.declared.option.Option.the-variants.{Some, None};
 ghost use Rattle.std.specs.Options.{mapped};
 ghost use Rattle.std.specs.Slices.{found};
-ghost use Rattle.std.specs.Of.Vec.{vec-items};
-ghost use Rattle.std.specs.Vec.{made};
-ghost use Rattle.wire.specs.Messages.{said, told, told-first, first-message, reading, pair-in, pair-at, pairs-good, bare, prewritten};
-ghost use Rattle.wire.specs.Messages.{head-word, head-of, sayable, written, Reads-back, Writes-back};
+ghost use Rattle.wire.specs.Messages.{said, said-in, said-first, first-message, reading, pair-in, pair-at, pairs-good, bare, prewritten};
+ghost use Rattle.wire.specs.Messages.{head-word, head-of, pairs-of, listed, sayable, written, Reads-back, Writes-back};
 use crate::refusal::Refusal;
 use crate::word::key_in;
 use crate::word::value_in;
-use std::alloc::AllocError;
-use std::alloc::Global;
 
 // A call as words say it. A prewrite's pairs are a part of the words that it was read from.
 #[derive(Clone, Copy)]
@@ -27,6 +23,13 @@ pub enum Message<'w> {
     Decide { transaction: u32 },
     Withdraw { transaction: u32 },
     Settle { transaction: u32, ground: u16 },
+}
+
+// The words of a message: its head, and its pairs where it has any.
+#[derive(Clone, Copy)]
+pub struct MessageWords<'w> {
+    pub head: u32,
+    pub pairs: &'w [u32],
 }
 
 // The pair of a key word and a value word, or nothing where one is no such word.
@@ -78,7 +81,7 @@ fn head_word(kind: u32, transaction: u32, argument: u16) -> Option<u32>
 
 // A message of one word, whose argument has to be zero.
 fn bare<'w>(message: Message<'w>, argument: u16) -> Option<(Message<'w>, usize)>
-    ensures value { λ r. ⌜ told-first r ≡ bare (said (message .entry)) argument ⌝ }
+    ensures value { λ r. ⌜ said-first r ≡ bare (said (message .entry)) argument ⌝ }
     ensures bound { λ r. ⌜ found r (λ p. p .1 ≡ 1) ⌝ }
 {
     if argument == 0 {
@@ -90,7 +93,7 @@ fn bare<'w>(message: Message<'w>, argument: u16) -> Option<(Message<'w>, usize)>
 
 // A prewrite of `count` pairs, which the words begin with.
 fn prewrite<'w>(transaction: u32, count: u16, words: &'w [u32]) -> Option<(Message<'w>, usize)>
-    ensures value { λ r. ⌜ told-first r ≡ prewritten transaction count (now (words .entry)) ⌝ }
+    ensures value { λ r. ⌜ said-first r ≡ prewritten transaction count (now (words .entry)) ⌝ }
     ensures bound { λ r. ⌜ found r (λ p. (0 < p .1) × (p .1 ≤ length (now (words .entry)) + 1)) ⌝ }
 {
     let length = 2 * count as usize;
@@ -106,7 +109,7 @@ fn prewrite<'w>(transaction: u32, count: u16, words: &'w [u32]) -> Option<(Messa
 
 // The message that words begin with, and how many words it takes.
 fn first_message<'w>(words: &'w [u32]) -> Option<(Message<'w>, usize)>
-    ensures value { λ r. ⌜ told-first r ≡ first-message (now (words .entry)) ⌝ }
+    ensures value { λ r. ⌜ said-first r ≡ first-message (now (words .entry)) ⌝ }
     ensures bound { λ r. ⌜ found r (λ p. (0 < p .1) × (p .1 ≤ length (now (words .entry)))) ⌝ }
 {
     let [head, rest @ ..] = words else {
@@ -148,7 +151,7 @@ impl<'w> Message<'w> {
     // The message that words begin with and how many words it takes; or refusal 12 and how many words are passed over: one, or none of
     // no words.
     pub fn read(words: &'w [u32]) -> (Result<Message<'w>, Refusal>, usize)
-        ensures value { λ r. ⌜ _≡_ (told (r .0), r .1) (reading (now (words .entry))) ⌝ }
+        ensures value { λ r. ⌜ _≡_ (said-in (r .0), r .1) (reading (now (words .entry))) ⌝ }
         ensures bound { λ r. ⌜ r .1 ≤ length (now (words .entry)) ⌝ }
         ensures advances { λ r. ⌜ (0 < length (now (words .entry)) → 0 < r .1) ⌝ }
     {
@@ -185,27 +188,36 @@ impl<'w> Message<'w> {
         }
     }
 
+    // The words that follow the head.
+    fn pairs(self) -> &'w [u32]
+        ensures { λ r. ⌜ now r ≡ pairs-of (said (self .entry)) ⌝ }
+    {
+        match self {
+            Message::Prewrite { pairs, .. } => pairs,
+            _ => &[],
+        }
+    }
+
+    // The words that say the message, or nothing where none do.
+    fn write(self) -> Option<MessageWords<'w>>
+        ensures { λ r. ⌜ mapped listed r ≡ written (said (self .entry)) ⌝ }
+    {
+        let Some(head) = self.head() else {
+            return None;
+        };
+        Some(MessageWords {
+            head,
+            pairs: self.pairs(),
+        })
+    }
+
     // The words that say the message, or nothing where none do: a transaction above 4,095, no pairs or more than 64, or a bad pair.
-    pub fn words(self, heap: Global) -> Result<Option<Vec<u32>>, AllocError>
-        ensures value { λ r. ⌜ made r (λ o. mapped vec-items o ≡ written (said (self .entry))) ⌝ }
+    // Reading and writing undo each other.
+    pub fn words(self) -> Option<MessageWords<'w>>
+        ensures value { λ r. ⌜ mapped listed r ≡ written (said (self .entry)) ⌝ }
         ensures reads_back { λ _. ⌜ Reads-back ⌝ }
         ensures writes_back { λ _. ⌜ Writes-back ⌝ }
     {
-        self.write(heap)
-    }
-
-    // The same, without the two laws of reading and writing.
-    fn write(self, heap: Global) -> Result<Option<Vec<u32>>, AllocError>
-        ensures { λ r. ⌜ made r (λ o. mapped vec-items o ≡ written (said (self .entry))) ⌝ }
-    {
-        let Some(head) = self.head() else {
-            return Ok(None);
-        };
-        let mut words = Vec::new(heap);
-        words.push(head)?;
-        if let Message::Prewrite { pairs, .. } = self {
-            words.extend_from_slice(pairs)?;
-        }
-        Ok(Some(words))
+        self.write()
     }
 }

@@ -1,7 +1,7 @@
 ghost use mathlib.Core.Path.{_≡_};
 ghost use denote.Ref.{now};
 ghost use Rattle.std.specs.declared.option.Option.the-variants.{Some};
-ghost use Rattle.wire.specs.Refusals.{number-of, cause-of};
+ghost use Rattle.wire.specs.Refusals.{number-of, refusal-text};
 use std::fmt;
 
 // Why a call is refused. A refused call leaves books and cells as they stood.
@@ -44,32 +44,33 @@ impl Refusal {
         }
     }
 
-    // The cause in words.
-    pub fn cause(self) -> &'static str
-        ensures { λ r. ⌜ now r ≡ cause-of self ⌝ }
+    // The cause as a text.
+    pub fn text(self) -> &'static str
+        ensures { λ r. ⌜ now r ≡ refusal-text self ⌝ }
     {
         match self {
-            Refusal::BadNumber => "number not above all begun, or not 1 to 4,095",
-            Refusal::NoRoom => "a book has too few free lines",
-            Refusal::NeverBegun => "transaction never begun",
-            Refusal::AlreadyDecided => "transaction already decided",
-            Refusal::NotRunning => "its row here is not Running",
-            Refusal::NoRow => "it has no row here",
-            Refusal::ReadAfterPrewrite => "a read after its first prewrite",
-            Refusal::StillRunning => "a row of it is still Running",
-            Refusal::NotDecided => "transaction not decided yet",
-            Refusal::AlreadySettled => "its row is Committed or Aborted already",
-            Refusal::NoSuchKey => "key not in the store",
-            Refusal::Malformed => "malformed message",
-            Refusal::BadStore => "bad store",
+            Refusal::BadNumber =>
+                "the number is not from 1 to 4,095, or not above every number begun before",
+            Refusal::NoRoom => "a book cannot take all the lines that the call would write",
+            Refusal::NeverBegun => "the transaction was never begun",
+            Refusal::AlreadyDecided => "the transaction is decided already",
+            Refusal::NotRunning => "the transaction has a row at this ground that is not Running",
+            Refusal::NoRow => "the transaction has no row at this ground",
+            Refusal::ReadAfterPrewrite => "the transaction has prewritten before",
+            Refusal::StillRunning => "a row of the transaction is still Running",
+            Refusal::NotDecided => "the transaction is not decided yet",
+            Refusal::AlreadySettled => "the row is Committed or Aborted already",
+            Refusal::NoSuchKey => "the store has no such key",
+            Refusal::Malformed => "the words begin with no message",
+            Refusal::BadStore => "this makes no good store",
         }
     }
 }
 
 pub impl fmt::Display for Refusal as RefusalDisplay {
-    ghost shown = { λ r. Some (cause-of r) };
+    ghost shown = { λ r. Some (refusal-text r) };
 
     fn fmt<W: fmt::Write>(&self, f: &mut fmt::Formatter<W>) -> fmt::Result {
-        f.write_str(self.cause())
+        f.write_str(self.text())
     }
 }

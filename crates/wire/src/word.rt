@@ -1,19 +1,7 @@
 ghost use mathlib.Core.Path.{_≡_};
 ghost use Prim.Native.Nat.{_<_};
 ghost use Rattle.std.specs.declared.result.Result.the-variants.{Ok};
-ghost use Rattle.wire.specs.Words.{
-  key-word,
-  value-word,
-  write-stamp-word,
-  read-stamp-word,
-  key-in,
-  value-in,
-  write-stamp-in,
-  read-stamp-in,
-  low-half,
-  stamp-under,
-  word-of,
-};
+ghost use Rattle.wire.specs.Words.{key-word, value-word, stamp-word, key-in, value-in, stamp-in, low-half, stamp-kind};
 use crate::stamp::Stamp;
 use crate::value::bits_of;
 use crate::value::value_of;
@@ -23,6 +11,28 @@ use crate::value::value_of;
 pub enum WordFault {
     WrongKind,
     StrayBits,
+}
+
+// What a word with a stamp tells: an answer's stamp, or a cell's write stamp or read stamp.
+#[derive(Clone, Copy, PartialEq, Eq, Debug)]
+pub enum StampKind {
+    Answer,
+    Write,
+    Read,
+}
+
+impl StampKind {
+    // The kind of such words.
+    fn number(self) -> u32
+        ensures value { λ r. ⌜ r ≡ stamp-kind self ⌝ }
+        ensures bound { λ r. ⌜ r < 16 ⌝ }
+    {
+        match self {
+            StampKind::Answer => 11,
+            StampKind::Write => 14,
+            StampKind::Read => 15,
+        }
+    }
 }
 
 // The low sixteen bits of a word of this kind, whose bits 27 to 16 have to be zero.
@@ -36,26 +46,6 @@ fn low_half(kind: u32, word: u32) -> Result<u16, WordFault>
     } else {
         Ok((word % 65536) as u16)
     }
-}
-
-// The stamp in a word of this kind.
-fn stamp_under(kind: u32, word: u32) -> Result<Stamp, WordFault>
-    ensures { λ r. ⌜ r ≡ stamp-under kind word ⌝ }
-{
-    if word / 0x1000_0000 != kind {
-        Err(WordFault::WrongKind)
-    } else {
-        Ok(Stamp::in_word(word))
-    }
-}
-
-// The word of this kind for a stamp.
-fn stamp_word(kind: u32, stamp: Stamp) -> u32
-    requires { ⌜ kind < 16 ⌝ }
-    ensures value { λ r. ⌜ r ≡ word-of kind (stamp .number) ⌝ }
-    ensures back { λ r. ⌜ stamp-under kind r ≡ Ok stamp ⌝ }
-{
-    kind * 0x1000_0000 + stamp.number()
 }
 
 // The key in a word of kind 8.
@@ -72,18 +62,14 @@ pub fn value_in(word: u32) -> Result<i16, WordFault>
     Ok(value_of(low_half(9, word)?))
 }
 
-// The write stamp in a word of kind E.
-pub fn write_stamp_in(word: u32) -> Result<Stamp, WordFault>
-    ensures { λ r. ⌜ r ≡ write-stamp-in word ⌝ }
+// The stamp in a word of kind B, E or F.
+pub fn stamp_in(kind: StampKind, word: u32) -> Result<Stamp, WordFault>
+    ensures { λ r. ⌜ r ≡ stamp-in kind word ⌝ }
 {
-    stamp_under(14, word)
-}
-
-// The read stamp in a word of kind F.
-pub fn read_stamp_in(word: u32) -> Result<Stamp, WordFault>
-    ensures { λ r. ⌜ r ≡ read-stamp-in word ⌝ }
-{
-    stamp_under(15, word)
+    if word / 0x1000_0000 != kind.number() {
+        return Err(WordFault::WrongKind);
+    }
+    Ok(Stamp::in_word(word))
 }
 
 // The word of a key.
@@ -102,18 +88,10 @@ pub fn value_word(value: i16) -> u32
     0x9000_0000 + u32::from(bits_of(value))
 }
 
-// The word of a write stamp.
-pub fn write_stamp_word(stamp: Stamp) -> u32
-    ensures value { λ r. ⌜ r ≡ write-stamp-word stamp ⌝ }
-    ensures back { λ r. ⌜ write-stamp-in r ≡ Ok stamp ⌝ }
+// The word of a stamp.
+pub fn stamp_word(kind: StampKind, stamp: Stamp) -> u32
+    ensures value { λ r. ⌜ r ≡ stamp-word kind stamp ⌝ }
+    ensures back { λ r. ⌜ stamp-in kind r ≡ Ok stamp ⌝ }
 {
-    stamp_word(14, stamp)
-}
-
-// The word of a read stamp.
-pub fn read_stamp_word(stamp: Stamp) -> u32
-    ensures value { λ r. ⌜ r ≡ read-stamp-word stamp ⌝ }
-    ensures back { λ r. ⌜ read-stamp-in r ≡ Ok stamp ⌝ }
-{
-    stamp_word(15, stamp)
+    kind.number() * 0x1000_0000 + stamp.number()
 }

@@ -3,7 +3,6 @@ ghost use mathlib.Core.Path.{_≡_};
 ghost use denote.Ref.{now, name};
 ghost use Rattle.std.specs.declared.option.Option.the-variants.{None};
 ghost use Rattle.store.specs.Flats.{flat-fault, flat-has, flat-means, cells-of, fault-of};
-ghost use Rattle.store.specs.Stores.{Put, Refuses};
 use crate::cell::Cell;
 use crate::fault::Cause;
 use crate::fault::Fault;
@@ -43,6 +42,7 @@ impl<'a> Flat<'a> {
     // The store that the memory means; of memory with a fault, one without keys.
     pub fn new(ground: u16, words: &'a mut [u32]) -> Flat<'a>
         ensures cells { λ r. ⌜ cells-of r ≡ flat-means ground (now (words .entry)) ⌝ }
+        ensures fault { λ r. ⌜ fault-of r ≡ flat-fault ground (now (words .entry)) ⌝ }
         ensures words { λ r. ⌜ now (r .words) ≡ now (words .entry) ⌝ }
         ensures lent { λ r. ⌜ name (r .words) ≡ name (words .entry) ⌝ }
     {
@@ -65,6 +65,8 @@ impl<'a> Flat<'a> {
 pub impl<'a> Store for Flat<'a> as FlatStore {
     ghost cells = { λ s. cells-of s };
 
+    ghost sound = { λ s. fault-of s ≡ None };
+
     ghost lent = { λ s. name (s .words) ∷ [] };
 
     fn fetch(&self, key: u16) -> Option<Cell> {
@@ -75,13 +77,7 @@ pub impl<'a> Store for Flat<'a> as FlatStore {
         }
     }
 
-    // Where the memory had no fault it has none afterwards.
-    fn put(&mut self, key: u16, cell: Cell) -> Result<(), Refusal>
-        ensures put { λ r. ⌜ Put (cells-of (now (self .entry))) (cells-of (now (self .exit))) key cell r ⌝ }
-        ensures refused { λ r. ⌜ Refuses r (now (self .exit) ≡ now (self .entry)) ⌝ }
-        ensures lent { λ _. ⌜ name (now (self .exit) .words) ∷ [] ≡ name (now (self .entry) .words) ∷ [] ⌝ }
-        ensures sound { λ _. ⌜ (fault-of (now (self .entry)) ≡ None → fault-of (now (self .exit)) ≡ None) ⌝ }
-    {
+    fn put(&mut self, key: u16, cell: Cell) -> Result<(), Refusal> {
         if self.has(key) {
             put_cell(self.words, 3 * (key % 8192) as usize, cell);
             Ok(())

@@ -6,7 +6,6 @@ ghost use Prim.Native.Nat.{_<_, _/_};
 ghost use Rattle.std.specs.Slices.{found};
 ghost use Rattle.std.specs.declared.option.Option.the-variants.{None};
 ghost use Rattle.store.specs.Sparses.{sparse-fault, sparse-means, sought, line-in, cells-of, fault-of};
-ghost use Rattle.store.specs.Stores.{Put, Refuses};
 use crate::cell::Cell;
 use crate::fault::Fault;
 use crate::memory::Layout;
@@ -60,6 +59,7 @@ impl<'a> Sparse<'a> {
     // The store that the memory means; of memory with a fault, one without keys.
     pub fn new(words: &'a mut [u32]) -> Sparse<'a>
         ensures cells { λ r. ⌜ cells-of r ≡ sparse-means (now (words .entry)) ⌝ }
+        ensures fault { λ r. ⌜ fault-of r ≡ sparse-fault (now (words .entry)) ⌝ }
         ensures words { λ r. ⌜ now (r .words) ≡ now (words .entry) ⌝ }
         ensures lent { λ r. ⌜ name (r .words) ≡ name (words .entry) ⌝ }
     {
@@ -83,6 +83,8 @@ impl<'a> Sparse<'a> {
 pub impl<'a> Store for Sparse<'a> as SparseStore {
     ghost cells = { λ s. cells-of s };
 
+    ghost sound = { λ s. fault-of s ≡ None };
+
     ghost lent = { λ s. name (s .words) ∷ [] };
 
     fn fetch(&self, key: u16) -> Option<Cell> {
@@ -92,13 +94,7 @@ pub impl<'a> Store for Sparse<'a> as SparseStore {
         }
     }
 
-    // Where the memory had no fault it has none afterwards.
-    fn put(&mut self, key: u16, cell: Cell) -> Result<(), Refusal>
-        ensures put { λ r. ⌜ Put (cells-of (now (self .entry))) (cells-of (now (self .exit))) key cell r ⌝ }
-        ensures refused { λ r. ⌜ Refuses r (now (self .exit) ≡ now (self .entry)) ⌝ }
-        ensures lent { λ _. ⌜ name (now (self .exit) .words) ∷ [] ≡ name (now (self .entry) .words) ∷ [] ⌝ }
-        ensures sound { λ _. ⌜ (fault-of (now (self .entry)) ≡ None → fault-of (now (self .exit)) ≡ None) ⌝ }
-    {
+    fn put(&mut self, key: u16, cell: Cell) -> Result<(), Refusal> {
         let Some(i) = self.line(key) else {
             return Err(Refusal::NoSuchKey);
         };

@@ -4,6 +4,7 @@ ghost use Rattle.wire.specs.Keys.{key-of, field-of, field-number, Names, place
 use crate::place::Field;
 use crate::place::Place;
 
+// The field in bits 1 and 0 of a key.
 fn field_of(key: u16) -> Field
     ensures { λ r. ⌜ r ≡ field-of key ⌝ }
 {
@@ -15,6 +16,7 @@ fn field_of(key: u16) -> Field
     }
 }
 
+// The number of a field.
 fn field_number(field: Field) -> u16
     ensures value { λ r. ⌜ r ≡ field-number field ⌝ }
     ensures back { λ r. ⌜ field-of r ≡ field ⌝ }

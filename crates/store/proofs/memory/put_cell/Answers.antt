@@ -16,12 +16,12 @@ returns c =
     let fits : SFits w16 (x .value) = search needs in
     let same = toZ-ofZ w16 (x .value) fits in
     let a = c .value-word .ensures in
-    let b = c .write-stamp-word .ensures in
-    let d = c .read-stamp-word .ensures in
+    let b = c .stamp-word .ensures in
+    let d = c .stamp-word-2 .ensures in
     let back = a .back ∙ ap Ok same in
     record {
-      words = ap (λ v. three ws p v (c .write-stamp-word .result) (c .read-stamp-word .result)) (a .value ∙ ap value-word same)
-          ∙ (ap (λ w. three ws p (value-word (x .value)) w (c .read-stamp-word .result)) (b .value)
+      words = ap (λ v. three ws p v (c .stamp-word .result) (c .stamp-word-2 .result)) (a .value ∙ ap value-word same)
+          ∙ (ap (λ w. three ws p (value-word (x .value)) w (c .stamp-word-2 .result)) (b .value)
           ∙ ap (three ws p (value-word (x .value)) _) (d .value));
       cell = cell-written ws p _ _ _ x (c .pre) back (b .back) (d .back);
       sound = cell-sound ws p _ _ _ x (c .pre) back (b .back) (d .back);

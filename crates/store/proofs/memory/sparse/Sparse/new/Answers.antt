@@ -6,4 +6,4 @@ use Rattle.store.proofs.memory.sparse.Sparse.new.Needs as need
 pub returns : need.returns
 returns c =
     let tested = ap isSome (sym (c .sparse-fault .ensures)) ∙ c .is-none-good .ensures in
-    record { cells = made-means (c .args .words .now) (c .is-none-good .result) tested; words = refl; lent = refl }
+    record { cells = made-means (c .args .words .now) (c .is-none-good .result) tested; fault = refl; words = refl; lent = refl }
