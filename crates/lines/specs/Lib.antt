@@ -1,0 +1,4 @@
+pub mod LineKeys
+pub mod Locks
+pub mod Notes
+pub mod Rows
