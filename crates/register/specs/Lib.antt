@@ -1,0 +1,10 @@
+pub mod AllCases
+pub mod Calls
+pub mod Cases
+pub mod Checks
+pub mod Days
+pub mod Decisions
+pub mod Model
+pub mod Noting
+pub mod Validation
+pub mod Worked
