@@ -21,7 +21,7 @@ use Rattle.store.specs.declared.fault.Fault.{Fault}
 use Rattle.store.specs.declared.memory.Layout.the-variants.{Keyed}
 use Rattle.store.specs.Faults.{cause-in, or-else}
 use Rattle.store.specs.Memory.{cell-at, cell-cause, line-key, line-cause, lines-in, rising-cause, shape-cause}
-use Rattle.store.specs.Sparses.{halving, line-cell, line-naming, sought, sparse-fault, sparse-means}
+use Rattle.store.specs.Sparses.{found-cells, found-line, line-cell, line-naming, sought, sparse-fault, sparse-means}
 use Rattle.store.specs.Stores.{Cells, Put, with-cell}
 use Rattle.store.proofs.Faults.{none-at}
 use Rattle.store.proofs.Halving.{found-by-keys, found-has, found-naming}
@@ -62,55 +62,48 @@ module _ (ws : List ℕ) (good : sparse-fault ws ≡ None) where
       found-naming ws k (lines-in Keyed ws) rises (lines-in Keyed ws) 0 (lines-in Keyed ws) (omega arith) (omega arith)
       (λ j l. absurd (omega arith)) (λ j l h. absurd (omega arith))
 
--- The line of a key where the memory is good, and the cells that are found so.
-abbrev pub line : Bool → List ℕ → ℕ → Option ℕ
-line good ws k = cond good (sought ws k) None
-
-abbrev pub cells : Bool → List ℕ → Cells
-cells good ws k = mapped (line-cell ws) (line good ws k)
-
 -- What is not some is none.
 unsome : (o : Option Fault) → isSome o ≡ false → o ≡ None
 unsome (Some f) e = absurd (true≢false e)
 unsome None e = refl
 
 -- The store that is made of memory has the cells that the memory means.
-pub made-means : (ws : List ℕ) (good : Bool) → isSome (sparse-fault ws) ≡ not good → cells good ws ≡ sparse-means ws
+pub made-means : (ws : List ℕ) (good : Bool) → isSome (sparse-fault ws) ≡ not good → found-cells good ws ≡ sparse-means ws
 made-means ws true e =
     fun-ext (λ k. let none = unsome (sparse-fault ws) e in rw e (ap (mapped (line-cell ws)) (sought-naming ws none k)))
 made-means ws false e = fun-ext (λ k. rw e refl)
 
 -- A key's line has that key.
-line-has : (good : Bool) (ws : List ℕ) (k i : ℕ) → line good ws k ≡ Some i → line-key ws i ≡ k
+line-has : (good : Bool) (ws : List ℕ) (k i : ℕ) → found-line good ws k ≡ Some i → line-key ws i ≡ k
 line-has true ws k i e = found-has ws k (lines-in Keyed ws) 0 (lines-in Keyed ws) i e
 line-has false ws k i e = let z : _≡_ {A = ℕ} 0 1 = cc in absurd (omega arith)
 
-module _ (good : Bool) (ws : List ℕ) (k i : ℕ) (x : Cell) (at : line good ws k ≡ Some i) where
+module _ (good : Bool) (ws : List ℕ) (k i : ℕ) (x : Cell) (at : found-line good ws k ≡ Some i) where
   -- Every key keeps its line.
-  line-same : (q : ℕ) → line good (after Keyed ws i x) q ≡ line good ws q
+  line-same : (q : ℕ) → found-line good (after Keyed ws i x) q ≡ found-line good ws q
   line-same q =
       rw (length-after Keyed ws i x)
       (ap (λ o. cond good o None) (found-by-keys ws (after Keyed ws i x) q (lines-in Keyed ws) 0 (lines-in Keyed ws)
       (λ j. ap low-of (other-key ws i x j))))
 
   -- Different keys have different lines.
-  other-line : (q j : ℕ) → (q ≡ k → ⊥) → line good ws q ≡ Some j → j ≡ i → ⊥
+  other-line : (q j : ℕ) → (q ≡ k → ⊥) → found-line good ws q ≡ Some j → j ≡ i → ⊥
   other-line q j n e z =
       n (sym (line-has good ws q j e) ∙ ap (line-key ws) z ∙ line-has good ws k i at)
 
   -- Other keys keep their cells.
-  kept : (q : ℕ) → (q ≡ k → ⊥) → (o : Option ℕ) → line good ws q ≡ o
+  kept : (q : ℕ) → (q ≡ k → ⊥) → (o : Option ℕ) → found-line good ws q ≡ o
       → mapped (line-cell (after Keyed ws i x)) o ≡ mapped (line-cell ws) o
   kept q n None e = refl
   kept q n (Some j) e = ap Some (other-cell Keyed ws i x j (other-line q j n e))
 
   pub sparse-put : cell-at (after Keyed ws i x) (4 * i + 1) ≡ x
-      → Put (cells good ws) (cells good (after Keyed ws i x)) k x (Ok tt)
+      → Put (found-cells good ws) (found-cells good (after Keyed ws i x)) k x (Ok tt)
   sparse-put here = record {
     answers = rw at refl;
     leaves = rw at (fun-ext (λ q. ap (mapped (line-cell (after Keyed ws i x))) (line-same q) ∙ ⊎-elim
         (λ (e : q ≡ k). rw (e, eq-eqb k k refl, at) (ap Some here))
-        (λ (n : q ≡ k → ⊥). rw (ne-eqb q k n) (kept q n (line good ws q) refl))
+        (λ (n : q ≡ k → ⊥). rw (ne-eqb q k n) (kept q n (found-line good ws q) refl))
         (cases-eq q k)));
   }
 

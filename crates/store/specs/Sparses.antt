@@ -56,13 +56,21 @@ halving (suc n) ws k low high =
 abbrev pub sought : List ℕ → ℕ → Option ℕ
 sought ws k = halving (lines-in Keyed ws) ws k 0 (lines-in Keyed ws)
 
+-- The line of a key in memory that is good; in other memory there is none.
+abbrev pub found-line : Bool → List ℕ → ℕ → Option ℕ
+found-line good ws k = cond good (sought ws k) None
+
+-- The cells that are found so.
+abbrev pub found-cells : Bool → List ℕ → Cells
+found-cells good ws k = mapped (line-cell ws) (found-line good ws k)
+
 -- The line of a key in a store.
 abbrev pub line-in : Sparse → ℕ → Option ℕ
-line-in s k = cond (s .good) (sought (now (s .words)) k) None
+line-in s k = found-line (s .good) (now (s .words)) k
 
 -- The cells of a sparse store.
 abbrev pub cells-of : Sparse → Cells
-cells-of s k = mapped (line-cell (now (s .words))) (line-in s k)
+cells-of s k = found-cells (s .good) (now (s .words)) k
 
 -- The fault of a sparse store's memory.
 abbrev pub fault-of : Sparse → Option Fault

@@ -5,7 +5,7 @@ ghost use lib.ListN.{length};
 ghost use Prim.Native.Nat.{_<_, _/_};
 ghost use Rattle.std.specs.Slices.{found};
 ghost use Rattle.std.specs.declared.option.Option.the-variants.{None};
-ghost use Rattle.store.specs.Sparses.{sparse-fault, sparse-means, sought, line-in, cells-of, fault-of};
+ghost use Rattle.store.specs.Sparses.{sparse-fault, sparse-means, sought, line-in, found-cells, cells-of, fault-of};
 use crate::cell::Cell;
 use crate::fault::Fault;
 use crate::memory::Layout;
@@ -55,6 +55,13 @@ fn line_of(words: &[u32], key: u16) -> Option<usize>
     None
 }
 
+// Whether memory is good; then halving finds what it means, and else nothing is found.
+fn is_good(words: &[u32]) -> bool
+    ensures { λ r. ⌜ found-cells r (now (words .entry)) ≡ sparse-means (now (words .entry)) ⌝ }
+{
+    sparse_fault(words).is_none()
+}
+
 impl<'a> Sparse<'a> {
     // The store that the memory means; of memory with a fault, one without keys.
     pub fn new(words: &'a mut [u32]) -> Sparse<'a>
@@ -63,7 +70,7 @@ impl<'a> Sparse<'a> {
         ensures words { λ r. ⌜ now (r .words) ≡ now (words .entry) ⌝ }
         ensures lent { λ r. ⌜ name (r .words) ≡ name (words .entry) ⌝ }
     {
-        let good = sparse_fault(words).is_none();
+        let good = is_good(words);
         Sparse { good, words }
     }
 

@@ -20,8 +20,9 @@ impl Stamp {
     pub fn in_word(word: u32) -> Stamp
         ensures { λ r. ⌜ r ≡ stamp (word % 268435456) ⌝ }
     {
-        Stamp {
-            number: word % 0x1000_0000,
+        match Stamp::new(word % 0x1000_0000) {
+            Some(stamp) => stamp,
+            None => unreachable(),
         }
     }
 

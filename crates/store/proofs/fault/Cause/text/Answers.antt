@@ -1,3 +1,4 @@
+-- The texts that the search does not close.
 use mathlib.Core.Path.{ap, sym}
 use Rattle.store.specs.Faults.{cause-text}
 use Rattle.store.proofs.fault.Cause.text.Needs as need
@@ -16,9 +17,6 @@ returns-in-WrongKind c = sym (ap cause-text (c .in-WrongKind .is))
 
 pub returns-in-StrayBits : need.returns-in-StrayBits
 returns-in-StrayBits c = sym (ap cause-text (c .in-StrayBits .is))
-
-pub returns-in-KeysNotRising : need.returns-in-KeysNotRising
-returns-in-KeysNotRising c = sym (ap cause-text (c .in-KeysNotRising .is))
 
 pub returns-in-BoundaryAbove8 : need.returns-in-BoundaryAbove8
 returns-in-BoundaryAbove8 c = sym (ap cause-text (c .in-BoundaryAbove8 .is))

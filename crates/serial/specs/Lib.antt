@@ -1,0 +1,4 @@
+pub mod Agreement
+pub mod Ledger
+pub mod OnDays
+pub mod Serial

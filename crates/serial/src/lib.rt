@@ -1,0 +1,3 @@
+// What is promised of the calls.
+
+pub mod law;
