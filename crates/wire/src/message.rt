@@ -202,9 +202,7 @@ impl<'w> Message<'w> {
     pub fn words(self) -> Option<MessageWords<'w>>
         ensures { λ r. ⌜ mapped listed r ≡ written (said (self .entry)) ⌝ }
     {
-        let Some(head) = self.head() else {
-            return None;
-        };
+        let head = self.head()?;
         Some(MessageWords {
             head,
             pairs: self.pairs(),
