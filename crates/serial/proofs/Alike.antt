@@ -1,6 +1,6 @@
 -- Two registers that agree on a ground answer a validation there alike, and still agree.
 use Prim.Native.Nat.{ℕ}
-use mathlib.Core.Bool.{Bool, true, false, cond, _&&_}
+use mathlib.Core.Bool.{Bool, true, false, cond}
 use mathlib.Core.List.{List, map}
 use mathlib.Core.Path.{_≡_, refl, sym, ap, subst, _∙_}
 use native.Mathlib.Omega.{arith}
@@ -8,7 +8,6 @@ use lib.Dec.{eqb}
 use lib.IntN.{ℤ}
 use lib.Signed.{ltZ}
 use Rattle.std.proofs.shelf.Tests.{and-parts}
-use Rattle.std.specs.shelf.Lists.{kept-by}
 use Rattle.std.specs.declared.option.Option.{Option}
 use Rattle.std.specs.declared.option.Option.the-variants.{Some, None}
 use Rattle.std.specs.declared.result.Result.{Result}
@@ -24,9 +23,9 @@ use Rattle.lines.specs.declared.row.State.{State}
 use Rattle.lines.specs.declared.row.State.the-variants.{Running, Validated, Committed, Aborted}
 use Rattle.register.specs.Calls.{validate, validate-in, passed-with}
 use Rattle.register.specs.Checks.{after, open-line, open-now, row-here, running}
-use Rattle.register.specs.Model.{Model, Chooses, transaction-of, with-rows, replaced}
+use Rattle.register.specs.Model.{Model, Chooses, transaction-of, with-rows}
 use Rattle.register.specs.Validation.{floors, ceilings, befores, afters, pushed, row-moved, failed, passed, raised-above, lowered-below}
-use Rattle.serial.specs.Agreement.{rows-at, Agree, Alike, Same-policy, Local}
+use Rattle.serial.specs.Agreement.{rows-at, Agree, Same-policy, Local}
 use Rattle.serial.proofs.Kept.{kept-map, kept-replaced, line-passes}
 use Rattle.serial.proofs.Locality.{other-row, row-same, floors-same, ceilings-same, befores-same, afters-same, pushed-same}
 

@@ -9,8 +9,7 @@ use mathlib.Core.List.{List, [], _∷_, _++_, map}
 use mathlib.Core.Path.{_≡_, refl, sym, ap, _∙_}
 use Rattle.std.proofs.shelf.Tests.{true≢false}
 use Rattle.std.specs.shelf.Lists.{joined, kept-by}
-use Rattle.std.specs.declared.option.Option.{Option}
-use Rattle.std.specs.declared.option.Option.the-variants.{Some, None}
+use Rattle.std.specs.declared.option.Option.the-variants.{Some}
 use Rattle.book.specs.Books.{line-with}
 use Rattle.register.specs.Checks.{any}
 use Rattle.register.specs.Model.{replaced}

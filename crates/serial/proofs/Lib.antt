@@ -1,3 +1,11 @@
 pub mod Alike
+pub mod Alone
+pub mod Begun
+pub mod Found
 pub mod Kept
 pub mod Locality
+pub mod Outcomes
+pub mod Pending
+pub mod Quiet
+pub mod RowKeys
+pub mod Solo

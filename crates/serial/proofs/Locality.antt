@@ -1,62 +1,29 @@
 -- A validation depends on its ground alone: each thing that it looks at is the same in two registers that agree there.
 use Prim.Native.Nat.{ℕ}
 use mathlib.Core.Bool.{Bool, true, false, cond, _&&_}
-use mathlib.Core.List.{List, [], _∷_, _++_, map}
-use mathlib.Core.Logic.{⊎-elim}
+use mathlib.Core.List.{List, [], _++_, map}
 use mathlib.Core.Path.{_≡_, refl, sym, ap, _∙_, fun-ext}
-use native.Mathlib.Omega.{arith}
 use lib.Dec.{eqb}
 use lib.IntN.{ℤ}
-use lib.Signed.{ltZ}
-use Rattle.std.proofs.shelf.Tests.{and-left, and-right, cond-true, cond-false, eqb-true, cases-bool}
+use Rattle.std.proofs.shelf.Tests.{and-left, and-right, cond-false, eqb-true}
 use Rattle.std.specs.shelf.Lists.{joined, kept-by}
-use Rattle.std.specs.declared.option.Option.{Option}
-use Rattle.std.specs.declared.option.Option.the-variants.{Some, None}
-use Rattle.std.specs.declared.result.Result.{Result}
-use Rattle.std.specs.declared.result.Result.the-variants.{Ok, Err}
 use Rattle.store.specs.Stores.{Cells}
 use Rattle.wire.specs.Keys.{ground-of}
-use Rattle.wire.specs.declared.refusal.Refusal.{Refusal}
 use Rattle.lines.specs.LineKeys.{row-key, same-row}
 use Rattle.lines.specs.Locks.{row-of}
-use Rattle.lines.specs.Rows.{moved, with-bounds}
 use Rattle.lines.specs.declared.access.ReadLine.{ReadLine}
 use Rattle.lines.specs.declared.access.WriteLine.{WriteLine}
 use Rattle.lines.specs.declared.note.Effect.{Effect}
 use Rattle.lines.specs.declared.note.Effect.the-variants.{Nothing}
 use Rattle.lines.specs.declared.note.Note.{Note}
-use Rattle.lines.specs.declared.row.Event.{Event}
-use Rattle.lines.specs.declared.row.Event.the-variants.{Pass, Fail}
 use Rattle.lines.specs.declared.row.Row.{Row}
-use Rattle.register.specs.Calls.{validate, validate-in, passed-with}
-use Rattle.register.specs.Checks.{after, any, open-now, row-here, running}
-use Rattle.register.specs.Model.{Model, Chooses, transaction-of, with-rows, replaced}
+use Rattle.register.specs.Checks.{any}
+use Rattle.register.specs.Model.{Model}
 use Rattle.register.specs.Validation.{
-  of-here,
-  read-floor,
-  write-floor,
-  stamps-of,
-  other-party,
-  effect-with,
-  note-effect,
-  effect-floor,
-  effect-ceiling,
-  is-before,
-  is-after,
-  floors,
-  ceilings,
-  joins,
-  befores,
-  afters,
-  pushed,
-  row-moved,
-  failed,
-  passed,
-  raised-above,
-  lowered-below,
-}
-use Rattle.serial.specs.Agreement.{rows-at, reads-at, writes-at, notes-at, Agree, Alike, Same-policy, Local}
-use Rattle.serial.proofs.Kept.{joined-kept, any-kept, kept-kept, kept-map, line-kept, kept-replaced}
+    of-here, read-floor, write-floor, stamps-of, other-party, effect-with, note-effect, effect-floor, effect-ceiling, is-before, is-after,
+    floors, ceilings, joins, befores, afters, pushed}
+use Rattle.serial.specs.Agreement.{rows-at, reads-at, writes-at, notes-at, Agree}
+use Rattle.serial.proofs.Kept.{joined-kept, any-kept, kept-kept, line-kept}
 
 -- A row of another ground has another key.
 pub other-row : (t g : ℕ) (r : Row) → eqb (r .ground) g ≡ false → same-row (row-key r) (record { transaction = t; ground = g }) ≡ false

@@ -2,7 +2,6 @@
 --   Agree g m n   the registers m and n agree on the ground g
 --   Local         registers that agree on a ground, a transaction's line and in policy answer its validation there alike
 use Prim.Native.Nat.{ℕ}
-use mathlib.Core.Bool.{Bool}
 use mathlib.Core.List.{List}
 use mathlib.Core.Path.{_≡_}
 use lib.Dec.{eqb}

@@ -6,14 +6,13 @@
 --   nothing-owed gs h     no committed transaction is pending at any of the grounds gs
 use Prim.Native.Nat.{ℕ}
 use mathlib.Core.Bool.{Bool, true, false, cond, not, _&&_, _||_}
-use mathlib.Core.List.{List, [], _∷_, _++_, map}
+use mathlib.Core.List.{List, [], _∷_, map}
 use lib.Dec.{eqb}
 use lib.IntN.{ℤ}
 use Rattle.std.specs.shelf.Lists.{joined}
 use Rattle.std.specs.declared.option.Option.{Option}
 use Rattle.std.specs.declared.option.Option.the-variants.{Some, None}
 use Rattle.wire.specs.Keys.{ground-of}
-use Rattle.wire.specs.declared.stamp.Stamp.{Stamp}
 use Rattle.register.specs.Checks.{any}
 use Rattle.register.specs.declared.call.Call.{Call}
 use Rattle.register.specs.declared.call.Call.the-variants.{Begin, Read, Prewrite, Validate, Decide, Withdraw, Settle}

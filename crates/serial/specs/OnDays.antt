@@ -2,8 +2,8 @@
 --   Days-are-serial   on each of them the serial order tells every reader what it was answered, and, where nothing is owed, ends
 --                     with the values that the day's cells were worked out to hold
 use Prim.Native.Nat.{ℕ}
-use mathlib.Core.Bool.{Bool, true, cond, not, _&&_, _||_}
-use mathlib.Core.List.{List, [], _∷_, _++_, map, reverse}
+use mathlib.Core.Bool.{Bool, true, not, _&&_, _||_}
+use mathlib.Core.List.{List, [], _∷_, _++_, reverse}
 use mathlib.Core.Path.{_≡_}
 use Rattle.register.specs.Cases.{Case, Figures, cells-at}
 use Rattle.register.specs.Days.{days}
