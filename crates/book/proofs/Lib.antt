@@ -1,2 +1,4 @@
 pub mod Books
+pub mod Largest
 mod Loops
+pub mod Orders

@@ -6,6 +6,7 @@
 --   line-with same f k xs   that line itself, or nothing
 --   line-at xs o         the line at a place that was found, or nothing
 --   greatest o ks        the largest key by the order o, or nothing
+--   None-above o k ks    none of the keys ks is above k
 --   Added x b d r        adding x to the book b left the book d and answered r
 --   Replaced i x b d r   replacing the line i of b by x left d and answered r
 --   Stays b d            b and d have the same limit and room, and lie in the same memory
@@ -16,6 +17,7 @@ use Prim.Native.Nat.{ℕ, _+_, _≤_, _<_, min}
 use denote.Ref.{name}
 use lib.ListN.{length, set, take}
 use Rattle.std.specs.Orderings.{isLt}
+use Rattle.std.specs.shelf.Lists.{All}
 use Rattle.std.specs.declared.cmp.Ordering.{Ordering}
 use Rattle.std.specs.declared.option.Option.{Option}
 use Rattle.std.specs.declared.option.Option.the-variants.{Some, None}
@@ -87,3 +89,8 @@ above o k (j ∷ js) = above o (larger o k j) js
 abbrev pub greatest : {K : Type 0} → (K → K → Ordering) → List K → Option K
 greatest o [] = None
 greatest o (k ∷ ks) = Some (above o k ks)
+
+-- None of some keys is above the one found.
+abbrev pub None-above : {K : Type 0} → (K → K → Ordering) → Option K → List K → Type 0
+None-above o None ks = Unit {0}
+None-above o (Some k) ks = All (λ j. isLt (o k j) ≡ false) ks

@@ -1,6 +1,7 @@
 ghost use mathlib.Core.Bool.{Bool};
 ghost use mathlib.Core.Path.{_≡_};
 ghost use Rattle.std.specs.declared.cmp.Ordering.{Ordering};
+ghost use Rattle.std.specs.Keys.{Total};
 ghost use Rattle.std.specs.Orderings.{isEq};
 
 // A line of a book, which goes by its key.
@@ -21,6 +22,9 @@ pub trait Line: Copy {
 
     // The order of the keys' type is this one.
     law ordered: { (x y : Self·Key) (r : Ordering) → Key·Ord .orders x y r → r ≡ order x y };
+
+    // It is a total order.
+    law total: { Total (λ (x y : Self·Key) (r : Ordering). r ≡ order x y) };
 
     // The line's key.
     fn key(&self) -> Self::Key

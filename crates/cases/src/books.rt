@@ -74,7 +74,8 @@ fn limit_above_memory() -> Result<(), Fail> {
     let mut book = Book::new(&mut memory, 256);
     check_eq(book.free(), 1)?;
     book.add(Entry(1, 0))?;
-    refused(&mut book)
+    refused(&mut book)?;
+    check_eq(memory, [Entry(1, 0)])
 }
 
 #[test]

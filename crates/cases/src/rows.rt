@@ -1,13 +1,21 @@
+use book::book::Book;
+use lines::access::READS;
+use lines::access::WRITES;
+use lines::lock::lock_stands;
 use lines::note::Effect;
 use lines::note::EffectDebug;
 use lines::note::EffectPartialEq;
+use lines::note::NOTES;
 use lines::note::Note;
 use lines::note::Order;
 use lines::row::Event;
+use lines::row::ROWS;
 use lines::row::Row;
 use lines::row::RowDebug;
+use lines::row::RowLine;
 use lines::row::RowPartialEq;
 use lines::row::State;
+use lines::transaction::TRANSACTIONS;
 use std::test::*;
 use wire::refusal::Refusal;
 use wire::refusal::RefusalDebug;
@@ -141,4 +149,53 @@ fn a_transaction_apart_from_the_other() -> Result<(), Fail> {
         follows(first, second, Order::Apart, State::Aborted, Effect::Nothing)?;
     }
     follows(2, 3, Order::Before, State::Validated, Effect::Nothing)
+}
+
+// A row at ground 1.
+fn row_of(transaction: u32, state: State) -> Row {
+    Row {
+        transaction,
+        ground: 1,
+        state,
+        lower: 3,
+        upper: 12,
+    }
+}
+
+#[test]
+fn locks_stand_by_the_row() -> Result<(), Fail> {
+    let mut memory = [Row::new(9, 0); 4];
+    let mut rows = Book::new(&mut memory, ROWS);
+    rows.add(row_of(1, State::Running))?;
+    rows.add(row_of(2, State::Validated))?;
+    rows.add(row_of(3, State::Committed))?;
+    rows.add(row_of(4, State::Aborted))?;
+    check_eq(lock_stands(&rows, 1, 8192), true)?;
+    check_eq(lock_stands(&rows, 2, 16383), true)?;
+    check_eq(lock_stands(&rows, 3, 8192), false)?;
+    check_eq(lock_stands(&rows, 4, 8192), false)?;
+    check_eq(lock_stands(&rows, 1, 8191), false)?;
+    check_eq(lock_stands(&rows, 1, 16384), false)?;
+    check_eq(lock_stands(&rows, 5, 8192), false)
+}
+
+#[test]
+fn new_rows_are_running() -> Result<(), Fail> {
+    let it = Row {
+        transaction: 7,
+        ground: 3,
+        state: State::Running,
+        lower: 0,
+        upper: 268435455,
+    };
+    check_eq(Row::new(7, 3), it)
+}
+
+#[test]
+fn limits() -> Result<(), Fail> {
+    check_eq(TRANSACTIONS, 64)?;
+    check_eq(ROWS, 256)?;
+    check_eq(READS, 512)?;
+    check_eq(WRITES, 512)?;
+    check_eq(NOTES, 4096)
 }

@@ -3,19 +3,24 @@
 --   earlier-past, earlier-running     a transaction that comes earlier stays below, or is waited for by, the other
 --   later-past, later-running         one that comes later stays above, or waits for, the other
 --   apart-past, apart-running         one that is apart goes after those that passed, and before those that did not
+--   uninvolved                        a note of two others changes nothing
+--   side-first, side-second, side-apart   on which side of a note its parties are
 use Prim.Native.Nat.{ℕ}
-use mathlib.Core.Bool.{true, false}
-use mathlib.Core.Path.{_≡_, refl, sym, ap, _∙_}
+use mathlib.Core.Bool.{true, false, _||_}
+use mathlib.Core.Path.{_≡_, refl, ap, _∙_}
+use lib.Dec.{eqb}
 use Rattle.std.proofs.shelf.Tests.{false≢true}
 use Rattle.lines.specs.declared.note.Effect.{Effect}
 use Rattle.lines.specs.declared.note.Effect.the-variants.{Nothing, LowerBelow, RaiseAbove, JoinBefore, JoinAfter}
 use Rattle.lines.specs.declared.note.Note.{Note}
+use Rattle.lines.specs.declared.note.Order.{Order}
+use Rattle.lines.specs.declared.note.Order.the-variants as order
 use Rattle.lines.specs.declared.note.Side.{Side}
 use Rattle.lines.specs.declared.note.Side.the-variants.{Earlier, Later, Apart, Neither}
 use Rattle.lines.specs.declared.row.Row.{Row}
 use Rattle.lines.specs.declared.row.State.{State}
 use Rattle.lines.specs.declared.row.State.the-variants.{Running, Validated, Committed, Aborted}
-use Rattle.lines.specs.Notes.{side-of, effect-by, effect-of}
+use Rattle.lines.specs.Notes.{side-by, side-of, effect-by, effect-of}
 use Rattle.lines.specs.Rows.{past}
 
 -- What both states of a row that passed have in common holds of a row that passed.
@@ -57,3 +62,26 @@ module _ (n : Note) (t : ℕ) (r : Row) where
 
   pub apart-running : side-of n t ≡ Apart → r .state ≡ Running → effect-of n t r ≡ JoinAfter
   apart-running e p = at-side Apart e ∙ ap (λ s. effect-by Apart s r) p
+
+  pub uninvolved : eqb (n .first) t ≡ false → eqb (n .second) t ≡ false → effect-of n t r ≡ Nothing
+  uninvolved f s = at-side Neither (go (n .order)) ∙ neither (r .state)
+    where
+      go : (o : Order) → side-by o (n .first) (n .second) t ≡ Neither
+      go order.Before = rw (f, s) refl
+      go order.Apart = rw (f, s) refl
+
+      neither : (q : State) → effect-by Neither q r ≡ Nothing
+      neither Running = refl
+      neither Validated = refl
+      neither Committed = refl
+      neither Aborted = refl
+
+module _ (n : Note) (t : ℕ) where
+  pub side-first : n .order ≡ order.Before → eqb (n .first) t ≡ true → side-of n t ≡ Earlier
+  side-first o f = rw (o, f) refl
+
+  pub side-second : n .order ≡ order.Before → eqb (n .first) t ≡ false → eqb (n .second) t ≡ true → side-of n t ≡ Later
+  side-second o f s = rw (o, f, s) refl
+
+  pub side-apart : n .order ≡ order.Apart → (eqb (n .first) t || eqb (n .second) t) ≡ true → side-of n t ≡ Apart
+  side-apart o e = rw (o, e) refl

@@ -1,6 +1,6 @@
 -- Longer days that cross grounds and settle late, and every refusal that a call can give; the replies are worked out by hand.
 use mathlib.Core.List.{List, [], _∷_}
-use lib.IntN.{pos, negsuc}
+use lib.IntN.{pos}
 use Rattle.policy.specs.Ranges.{whole-range, near-range}
 use Rattle.wire.specs.declared.refusal.Refusal.the-variants.{
   BadNumber,

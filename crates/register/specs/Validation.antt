@@ -7,7 +7,6 @@ use mathlib.Core.Bool.{Bool, true, false, cond, _&&_}
 use mathlib.Core.List.{List, [], _∷_, _++_, map}
 use lib.Dec.{eqb}
 use lib.IntN.{ℤ, pos, _+ℤ_, _-ℤ_}
-use lib.Signed.{ltZ}
 use Rattle.std.specs.Numbers.{maxZ, minZ}
 use Rattle.std.specs.shelf.Lists.{joined, kept-by}
 use Rattle.std.specs.declared.option.Option.{Option}

@@ -100,7 +100,7 @@ fine-commits rs f =
     subst (λ x. Commit-decision (cond x decision.Aborted (decision-in (largest-lower rs) (smallest-upper rs))))
     (sym (any-none Fine (λ r. is-aborted (r .state)) (λ r q. live-not (r .state) (q .3)) rs f))
     (range-commits _ _ (lower-least rs (pos 0) (omega (arith, ints))) (lower-most rs (pos 0) (omega (arith, ints)) f)
-      (upper-least rs (pos 268435455) (omega (arith, ints)) f))
+    (upper-least rs (pos 268435455) (omega (arith, ints)) f))
 
 -- A decide of t that is accepted while it is alone commits.
 decide-commits : (P : Chooses) (t : ℕ) (found : Cells) (m : Model) → Now t found m → accepted (step P m (call.Decide t) .1) ≡ true
@@ -109,12 +109,12 @@ decide-commits P t found m n =
     decide-cases m t (λ o. accepted (decide-reply (o .1)) ≡ true → Commits (decide-reply (o .1)))
     (λ e q. absurd (false≢true q))
     (λ now _ _.
-      ⊎-elim
-      (λ (x : Closed t m). absurd (not-open t found m x now))
-      (λ (s : Solo t found m).
-        let d = fine-commits (rows-of m t) (kept-fine t (m .rows) (s .rows)) in
-        (d .0, ap decision-reply (d .1)))
-      n)
+    ⊎-elim
+    (λ (x : Closed t m). absurd (not-open t found m x now))
+    (λ (s : Solo t found m).
+    let d = fine-commits (rows-of m t) (kept-fine t (m .rows) (s .rows)) in
+    (d .0, ap decision-reply (d .1)))
+    n)
 
 -- The keys of a day are among those of the day after more calls.
 keys-grow : (Q : ℕ → Type 0) (P : Chooses) (t : ℕ) (d : Day) (cs : List Call) → All Q (keys-of (day-after P d cs .history) t)
@@ -138,7 +138,7 @@ solo-day P means t found d [] n a f = n
 solo-day P means t found d (c ∷ cs) n a f =
     solo-day P means t found (next P d c) cs
     (solo-step t found P means (d .model) c (a .0) n
-      (front (Fresh found) (key-in t c (step P (d .model) c .1)) _ (keys-grow (Fresh found) P t (next P d c) cs f)))
+    (front (Fresh found) (key-in t c (step P (d .model) c .1)) _ (keys-grow (Fresh found) P t (next P d c) cs f)))
     (a .1) f
 
 -- A number above all in the books is none of them.
@@ -184,7 +184,7 @@ alone P means cells rooms earlier t own none begun only fresh decides =
     let before : Day = day-after P (new-day cells rooms) earlier in
     let known : Known (before .model) = known-day P (new-day cells rooms) earlier (λ n a. (tt, tt, tt, tt)) in
     let lives : Live-pending (before .model .rows) (before .history) =
-        live-day P (new-day cells rooms) earlier (λ u j r e l. let z : _≡_ {A = ℕ} 0 1 = cc in absurd (omega arith)) in
+    live-day P (new-day cells rooms) earlier (λ u j r e l. let z : _≡_ {A = ℕ} 0 1 = cc in absurd (omega arith)) in
     let start = begun-solo P (before .model) (before .history) t known lives none begun in
     decide-commits P t (before .model .cells) (day-after P (next P before (call.Begin t)) own .model)
     (solo-day P means t (before .model .cells) (next P before (call.Begin t)) own start only fresh) decides

@@ -6,18 +6,21 @@ use mathlib.Core.Bool.{Bool, true, false, cond, _&&_}
 use mathlib.Core.List.{List, [], _∷_, _++_, map}
 use mathlib.Core.Path.{_≡_, refl, sym, subst}
 use native.Mathlib.Omega.{arith}
-use lib.Dec.{eqb}
+use lib.Dec.{eqb, ltb}
 use lib.IntN.{ℤ}
 use Rattle.std.proofs.shelf.Elements.{all-append, all-push, all-map, all-weaker}
-use Rattle.std.proofs.shelf.Tests.{eqb-true}
-use Rattle.std.proofs.shelf.Ways.{tells}
+use Rattle.std.proofs.shelf.Tests.{eqb-true, ltb-false, true≢false}
 use Rattle.std.specs.Keys.{rank}
 use Rattle.std.specs.Options.{valueOr}
+use Rattle.std.specs.Orderings.{isLt}
+use Rattle.std.specs.declared.cmp.Ordering.the-variants.{Less, Equal, Greater}
 use Rattle.std.specs.shelf.Lists.{All}
 use Rattle.std.specs.declared.option.Option.{Option}
 use Rattle.std.specs.declared.option.Option.the-variants.{Some, None}
 use Rattle.std.specs.declared.result.Result.the-variants.{Ok}
-use Rattle.book.specs.Books.{above, greatest, larger}
+use Rattle.book.proofs.Largest.{none-above}
+use Rattle.book.proofs.Orders.{by-number}
+use Rattle.book.specs.Books.{above, greatest}
 use Rattle.wire.specs.Keys.{ground-of}
 use Rattle.lines.specs.LineKeys.{row-key, read-key, write-key, same-row, same-access}
 use Rattle.lines.specs.Locks.{lock-stands, row-of}
@@ -43,26 +46,17 @@ use Rattle.serial.proofs.Kept.{line-passes}
 use Rattle.serial.proofs.Outcomes.{Out, chosen, begin-cases, read-cases, prewrite-cases, validate-cases, decide-cases, withdraw-cases, settle-cases}
 use Rattle.serial.proofs.RowKeys.{key, moves-owner}
 
--- The larger of two numbers is no less than either.
-larger-first : (a b : ℕ) → a ≤ larger rank a b
-larger-first a b = grind (arith, tells)
-
-larger-second : (a b : ℕ) → b ≤ larger rank a b
-larger-second a b = grind (arith, tells)
-
 -- The largest of some numbers is no less than any of them.
-above-start : (n : ℕ) (ns : List ℕ) → n ≤ above rank n ns
-above-start n [] = omega arith
-above-start n (x ∷ xs) = let a = larger-first n x in let b = above-start (larger rank n x) xs in omega arith
-
-above-all : (n : ℕ) (ns : List ℕ) → All (λ x. x ≤ above rank n ns) ns
-above-all n [] = tt
-above-all n (x ∷ xs) =
-    (let a = larger-second n x in let b = above-start (larger rank n x) xs in omega arith, above-all (larger rank n x) xs)
+reached : (n j : ℕ) → isLt (rank n j) ≡ false → j ≤ n
+reached n j e = go (ltb n j) refl e
+  where
+    go : (b : Bool) → ltb n j ≡ b → isLt (cond b Less (cond (eqb n j) Equal Greater)) ≡ false → j ≤ n
+    go true s q = absurd (true≢false q)
+    go false s q = ltb-false n j s
 
 greatest-all : (ns : List ℕ) → All (λ x. x ≤ valueOr (greatest rank ns) 0) ns
 greatest-all [] = tt
-greatest-all (n ∷ ns) = (above-start n ns, above-all n ns)
+greatest-all (n ∷ ns) = all-weaker _ _ (reached (above rank n ns)) (n ∷ ns) (none-above rank by-number (n ∷ ns))
 
 -- What holds of all of a mapped list holds of the images.
 all-unmap : {X Y : Type 0} (Q : Y → Type 0) (f : X → Y) (xs : List X) → All Q (map f xs) → All (λ x. Q (f x)) xs
@@ -129,7 +123,7 @@ numbers-kept n t d (x ∷ xs) a = go (eqb (x .number) t) refl a (λ b. numbers-k
   where
     go : (b : Bool) → eqb (x .number) t ≡ b
         → All (λ y. y .number ≤ n)
-          (cond b (record { number = t; decision = d } ∷ xs) (x ∷ replaced eqb (λ y. y .number) t (record { number = t; decision = d }) xs))
+        (cond b (record { number = t; decision = d } ∷ xs) (x ∷ replaced eqb (λ y. y .number) t (record { number = t; decision = d }) xs))
         → (All (λ y. y .number ≤ n) (replaced eqb (λ y. y .number) t (record { number = t; decision = d }) xs) → All (λ y. y .number ≤ n) xs)
         → All (λ y. y .number ≤ n) (x ∷ xs)
     go true s h later = (subst (λ u. u ≤ n) (sym (eqb-true _ _ s)) (h .0), h .1)
@@ -158,44 +152,52 @@ module _ (P : Chooses) (m : Model) (known : Known m) where
   known-step (call.Read t k) =
       read-cases m t k After (λ _. known) (λ _ _ _. known)
       (λ c begun _ _ _ _ n a.
-        let b = known n a in
-        let own = open-known n m t begun a in
-        (all-append _ (m .rows) _ (b .0) (needed-known n (row-of (m .rows) t (ground-of k)) t (ground-of k) own),
-          all-push _ (m .reads) _ (b .1) own,
-          b .2,
-          all-append _ (m .notes) _ (b .3)
-          (all-map _ (before-note k t) (write-locks m k)
+      let b = known n a in
+      let own = open-known n m t begun a in (
+        all-append _ (m .rows) _ (b .0) (needed-known n (row-of (m .rows) t (ground-of k)) t (ground-of k) own),
+        all-push _ (m .reads) _ (b .1) own,
+        b .2,
+        all-append _ (m .notes) _ (b .3)
+            (all-map _ (before-note k t) (write-locks m k)
             (all-weaker (λ u. u ≤ n) _ (λ u q. (own, q)) (write-locks m k)
-              (locks-known (λ u. u ≤ n) (m .rows) k (map write-key (m .writes)) (all-map _ write-key (m .writes) (b .2)))))))
+            (locks-known (λ u. u ≤ n) (m .rows) k (map write-key (m .writes)) (all-map _ write-key (m .writes) (b .2))))),
+      ))
   known-step (call.Prewrite t k v) =
       prewrite-cases m t k v After (λ _. known)
       (λ w begun _ n a.
-        let b = known n a in
-        (b .0, b .1,
-          all-replaced same-access write-key (record { transaction = t; key = k }) (λ x. x .transaction ≤ n)
-          (record { transaction = t; key = k; value = v }) (open-known n m t begun a) (m .writes) (b .2),
-          b .3))
+      let b = known n a in (
+        b .0,
+        b .1,
+        all-replaced same-access write-key (record { transaction = t; key = k }) (λ x. x .transaction ≤ n)
+            (record { transaction = t; key = k; value = v }) (open-known n m t begun a) (m .writes) (b .2),
+        b .3,
+      ))
       (λ c begun _ _ _ n a.
-        let b = known n a in
-        let own = open-known n m t begun a in
-        let readers = locks-known (λ u. u ≤ n) (m .rows) k (map read-key (m .reads)) (all-map _ read-key (m .reads) (b .1)) in
-        let writers = locks-known (λ u. u ≤ n) (m .rows) k (map write-key (m .writes)) (all-map _ write-key (m .writes) (b .2)) in
-        (all-append _ (m .rows) _ (b .0) (needed-known n (row-of (m .rows) t (ground-of k)) t (ground-of k) own),
-          b .1,
-          all-push _ (m .writes) _ (b .2) own,
-          all-append _ (m .notes) _ (b .3)
-          (all-append _ (map (λ r. before-note k r t) (others t (read-locks m k))) _
+      let b = known n a in
+      let own = open-known n m t begun a in
+      let readers = locks-known (λ u. u ≤ n) (m .rows) k (map read-key (m .reads)) (all-map _ read-key (m .reads) (b .1)) in
+      let writers = locks-known (λ u. u ≤ n) (m .rows) k (map write-key (m .writes)) (all-map _ write-key (m .writes) (b .2)) in (
+        all-append _ (m .rows) _ (b .0) (needed-known n (row-of (m .rows) t (ground-of k)) t (ground-of k) own),
+        b .1,
+        all-push _ (m .writes) _ (b .2) own,
+        all-append _ (m .notes) _ (b .3)
+            (all-append _ (map (λ r. before-note k r t) (others t (read-locks m k))) _
             (all-map _ (λ r. before-note k r t) (others t (read-locks m k))
-              (all-weaker (λ u. u ≤ n) _ (λ u q. (q, own)) (others t (read-locks m k)) (others-known (λ u. u ≤ n) t (read-locks m k) readers)))
+            (all-weaker (λ u. u ≤ n) _ (λ u q. (q, own)) (others t (read-locks m k)) (others-known (λ u. u ≤ n) t (read-locks m k) readers)))
             (all-map _ (apart-note k t) (others t (write-locks m k))
-              (all-weaker (λ u. u ≤ n) _ (λ u q. (own, q)) (others t (write-locks m k)) (others-known (λ u. u ≤ n) t (write-locks m k) writers))))))
+            (all-weaker (λ u. u ≤ n) _ (λ u q. (own, q)) (others t (write-locks m k)) (others-known (λ u. u ≤ n) t (write-locks m k) writers)))),
+      ))
   known-step (call.Validate t g) =
       validate-cases m t g P After (λ _. known)
       (λ r _ at _ _ n a. (moved-known n (m .rows) t g r Fail (found-known n t g r at a) (known n a .0), known n a .1, known n a .2, known n a .3))
       (λ r _ at _ _ n a.
-        let range : ℤ × ℤ = chosen m t g P r in
-        (moved-known n (map (pushed m t g range) (m .rows)) t g r (Pass (range .0) (range .1)) (found-known n t g r at a)
-          (all-map _ (pushed m t g range) (m .rows) (known n a .0)), known n a .1, known n a .2, known n a .3))
+      let range : ℤ × ℤ = chosen m t g P r in (
+        moved-known n (map (pushed m t g range) (m .rows)) t g r (Pass (range .0) (range .1)) (found-known n t g r at a)
+            (all-map _ (pushed m t g range) (m .rows) (known n a .0)),
+        known n a .1,
+        known n a .2,
+        known n a .3,
+      ))
   known-step (call.Decide t) = decide-cases m t After (λ _. known) (λ _ _. decided-known t (decision-by m t))
   known-step (call.Withdraw t) = withdraw-cases m t After (λ _. known) (λ _. decided-known t decision.Aborted)
   known-step (call.Settle t g) =

@@ -20,8 +20,24 @@ use Rattle.lines.specs.declared.row.Row.{Row}
 use Rattle.register.specs.Checks.{any}
 use Rattle.register.specs.Model.{Model}
 use Rattle.register.specs.Validation.{
-    of-here, read-floor, write-floor, stamps-of, other-party, effect-with, note-effect, effect-floor, effect-ceiling, is-before, is-after,
-    floors, ceilings, joins, befores, afters, pushed}
+  of-here,
+  read-floor,
+  write-floor,
+  stamps-of,
+  other-party,
+  effect-with,
+  note-effect,
+  effect-floor,
+  effect-ceiling,
+  is-before,
+  is-after,
+  floors,
+  ceilings,
+  joins,
+  befores,
+  afters,
+  pushed,
+}
 use Rattle.serial.specs.Agreement.{rows-at, reads-at, writes-at, notes-at, Agree}
 use Rattle.serial.proofs.Kept.{joined-kept, any-kept, kept-kept, line-kept}
 

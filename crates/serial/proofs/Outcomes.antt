@@ -27,8 +27,21 @@ use Rattle.lines.specs.declared.row.Row.{Row}
 use Rattle.lines.specs.declared.transaction.Decision.{Decision}
 use Rattle.lines.specs.declared.transaction.Decision.the-variants.{Open, Aborted}
 use Rattle.register.specs.Calls.{begin, read, read-by, prewrite, prewrite-by, validate, decide, withdraw, settle, settle-by}
-use Rattle.register.specs.Checks.{after, unless, new-number, open-now, decided-now, cell-here, row-here, running, unless-past, unwritten,
-    none-running, has-room, room-for}
+use Rattle.register.specs.Checks.{
+  after,
+  unless,
+  new-number,
+  open-now,
+  decided-now,
+  cell-here,
+  row-here,
+  running,
+  unless-past,
+  unwritten,
+  none-running,
+  has-room,
+  room-for,
+}
 use Rattle.register.specs.Decisions.{decision-by, decided-as, settled}
 use Rattle.register.specs.Model.{Model, Chooses, with-transactions, with-writes, replaced, read-of, write-of}
 use Rattle.register.specs.Noting.{new-rows, notes-of-read, notes-of-prewrite, read-added, prewrite-added}
@@ -84,7 +97,7 @@ module _ (m : Model) (t : ℕ) where
     pub read-cases : (Q : Out (ℤ × Stamp) → Type 0) → ((e : Refusal) → Q (m, Err e))
         → ((r : ReadLine) → open-now m t ≡ Ok tt → read-of m t k ≡ Some r → Q (m, Ok (r .value, r .seen)))
         → ((c : Cell) → open-now m t ≡ Ok tt → m .cells k ≡ Some c → unless-past (row-of (m .rows) t (ground-of k)) ≡ Ok tt
-            → unwritten m t ≡ Ok tt → read-of m t k ≡ None → Q (read-added m t k c, Ok (c .value, c .write)))
+        → unwritten m t ≡ Ok tt → read-of m t k ≡ None → Q (read-added m t k c, Ok (c .value, c .write)))
         → Q (read m t k)
     read-cases Q refused again first =
         after-cases Q m (open-now m t) _ refused (λ _ a.
@@ -95,9 +108,11 @@ module _ (m : Model) (t : ℕ) where
 
     module _ (v : ℤ) where
       again-written : Out Unit
-      again-written =
-          (with-writes m (replaced same-access write-key (record { transaction = t; key = k })
-            (record { transaction = t; key = k; value = v }) (m .writes)), Ok tt)
+      again-written = (
+        with-writes m (replaced same-access write-key (record { transaction = t; key = k })
+            (record { transaction = t; key = k; value = v }) (m .writes)),
+        Ok tt,
+      )
 
       prewrite-end : (Q : Out Unit → Type 0) → ((e : Refusal) → Q (m, Err e))
           → ((w : WriteLine) → write-of m t k ≡ Some w → Q (prewrite-by (Some w) m t k v))
@@ -110,7 +125,7 @@ module _ (m : Model) (t : ℕ) where
       pub prewrite-cases : (Q : Out Unit → Type 0) → ((e : Refusal) → Q (m, Err e))
           → ((w : WriteLine) → open-now m t ≡ Ok tt → write-of m t k ≡ Some w → Q (prewrite-by (Some w) m t k v))
           → ((c : Cell) → open-now m t ≡ Ok tt → m .cells k ≡ Some c → unless-past (row-of (m .rows) t (ground-of k)) ≡ Ok tt
-              → write-of m t k ≡ None → Q (prewrite-added m t k v, Ok tt))
+          → write-of m t k ≡ None → Q (prewrite-added m t k v, Ok tt))
           → Q (prewrite m t k v)
       prewrite-cases Q refused again first =
           after-cases Q m (open-now m t) _ refused (λ _ a.
@@ -121,7 +136,7 @@ module _ (m : Model) (t : ℕ) where
   module _ (g : ℕ) where
     pub settle-cases : (Q : Out Unit → Type 0) → ((e : Refusal) → Q (m, Err e))
         → ((e : Event) (r : Row) → decided-now m t ≡ Ok e → row-of (m .rows) t g ≡ Some r → moved r e .1 ≡ Ok tt
-            → Q (settled m t g r e, Ok tt))
+        → Q (settled m t g r e, Ok tt))
         → Q (settle m t g)
     settle-cases Q refused done =
         after-cases Q m (decided-now m t) _ refused (λ e a.
@@ -147,9 +162,9 @@ module _ (m : Model) (t : ℕ) where
 
       pub validate-cases : (Q : Out (Option (ℤ × ℤ)) → Type 0) → ((e : Refusal) → Q (m, Err e))
           → ((r : Row) → open-now m t ≡ Ok tt → row-of (m .rows) t g ≡ Some r → running r ≡ Ok tt → ltZ (high r) (low r) ≡ true
-              → Q (failed m t g r, Ok None))
+          → Q (failed m t g r, Ok None))
           → ((r : Row) → open-now m t ≡ Ok tt → row-of (m .rows) t g ≡ Some r → running r ≡ Ok tt → ltZ (high r) (low r) ≡ false
-              → Q (passed m t g r (chosen r), Ok (Some (chosen r))))
+          → Q (passed m t g r (chosen r), Ok (Some (chosen r))))
           → Q (validate P m t g)
       validate-cases Q refused fails passes =
           after-cases Q m (open-now m t) _ refused (λ _ a.

@@ -87,11 +87,11 @@ moved-pending : (c : Call) (a : Reply) (rows : List Row) (h : History) (t g : �
 moved-pending c a rows h t g x r e at k f own p u j y q l =
     ⊎-elim
     (λ (s : (u ≡ t) × (j ≡ g)).
-      let found : Some (moved r e .0) ≡ Some y =
-          sym (own-moved rows t g r e x at k) ∙ (ap (λ v. row-of (row-moved t g r e rows) v g) (sym (s .0))
-            ∙ (ap (λ i. row-of (row-moved t g r e rows) u i) (sym (s .1)) ∙ q)) in
-      let is : y ≡ moved r e .0 = cc in
-      rw (s .0, s .1) (own (ap (λ z. live (z .state)) (sym is) ∙ l)))
+    let found : Some (moved r e .0) ≡ Some y =
+    sym (own-moved rows t g r e x at k) ∙ (ap (λ v. row-of (row-moved t g r e rows) v g) (sym (s .0))
+    ∙ (ap (λ i. row-of (row-moved t g r e rows) u i) (sym (s .1)) ∙ q)) in
+    let is : y ≡ moved r e .0 = cc in
+    rw (s .0, s .1) (own (ap (λ z. live (z .state)) (sym is) ∙ l)))
     (λ (s : (eqb t u && eqb g j) ≡ false). still c a h u j (f u j s) (p u j y (sym (other-moved rows t g r e u j s k) ∙ q) l))
     (same-or-not t g u j)
 
@@ -179,28 +179,28 @@ module _ (P : Chooses) (m : Model) (h : History) (p : Live-pending (m .rows) h) 
       read-cases m t k (After (call.Read t k) value-reply) (refused-live (call.Read t k))
       (λ r _ _. same-rows (call.Read t k) (value-reply (Ok (r .value, r .seen))) (m .rows) h (λ _ _. refl) p)
       (λ c _ _ _ _ _.
-        new-row-pending (call.Read t k) (value-reply (Ok (c .value, c .write))) (m .rows) h t (ground-of k) (λ _ _. refl)
-        (here-touched t (ground-of k)) p)
+      new-row-pending (call.Read t k) (value-reply (Ok (c .value, c .write))) (m .rows) h t (ground-of k) (λ _ _. refl)
+      (here-touched t (ground-of k)) p)
   live-step (call.Prewrite t k v) =
       prewrite-cases m t k v (After (call.Prewrite t k v) done) (refused-live (call.Prewrite t k v))
       (λ w _ _. same-rows (call.Prewrite t k v) reply.Done (m .rows) h (λ _ _. refl) p)
       (λ c _ _ _ _.
-        new-row-pending (call.Prewrite t k v) reply.Done (m .rows) h t (ground-of k) (λ _ _. refl) (here-touched t (ground-of k)) p)
+      new-row-pending (call.Prewrite t k v) reply.Done (m .rows) h t (ground-of k) (λ _ _. refl) (here-touched t (ground-of k)) p)
   live-step (call.Validate t g) =
       validate-cases m t g P (After (call.Validate t g) verdict-reply) (refused-live (call.Validate t g))
       (λ r _ at run _.
-        moved-pending (call.Validate t g) (verdict-reply (Ok None)) (m .rows) h t g r r Fail at (found-key (m .rows) t g r at)
-        (λ u j n. elsewhere-not t g u j true n)
-        (λ l. absurd (true≢false (sym l ∙ failed-dead r (running-is r run)))) p)
+      moved-pending (call.Validate t g) (verdict-reply (Ok None)) (m .rows) h t g r r Fail at (found-key (m .rows) t g r at)
+      (λ u j n. elsewhere-not t g u j true n)
+      (λ l. absurd (true≢false (sym l ∙ failed-dead r (running-is r run)))) p)
       (λ r _ at run _.
-        let range : ℤ × ℤ = chosen m t g P r in
-        let a : Reply = verdict-reply (Ok (Some range)) in
-        moved-pending (call.Validate t g) a (map (pushed m t g range) (m .rows)) h t g (pushed m t g range r) r
-        (Pass (range .0) (range .1))
-        (pushed-rows m t g range (m .rows) t g ∙ ap (mapped (pushed m t g range)) at) (found-key (m .rows) t g r at)
-        (λ u j n. elsewhere-not t g u j false n)
-        (λ _. still (call.Validate t g) a h t g (and-right (eqb t t) _ (and-right (eqb g g) _ refl)) (p t g r at (ap live (running-is r run))))
-        (pushed-live m t g range h p))
+      let range : ℤ × ℤ = chosen m t g P r in
+      let a : Reply = verdict-reply (Ok (Some range)) in
+      moved-pending (call.Validate t g) a (map (pushed m t g range) (m .rows)) h t g (pushed m t g range r) r
+      (Pass (range .0) (range .1))
+      (pushed-rows m t g range (m .rows) t g ∙ ap (mapped (pushed m t g range)) at) (found-key (m .rows) t g r at)
+      (λ u j n. elsewhere-not t g u j false n)
+      (λ _. still (call.Validate t g) a h t g (and-right (eqb t t) _ (and-right (eqb g g) _ refl)) (p t g r at (ap live (running-is r run))))
+      (pushed-live m t g range h p))
   live-step (call.Decide t) =
       decide-cases m t (After (call.Decide t) decide-reply) (refused-live (call.Decide t))
       (λ _ _. same-rows (call.Decide t) (decide-reply (Ok (decision-by m t))) (m .rows) h (λ _ _. refl) p)
@@ -210,9 +210,9 @@ module _ (P : Chooses) (m : Model) (h : History) (p : Live-pending (m .rows) h) 
   live-step (call.Settle t g) =
       settle-cases m t g (After (call.Settle t g) done) (refused-live (call.Settle t g))
       (λ e r dec at ok.
-        moved-pending (call.Settle t g) reply.Done (m .rows) h t g r r e at (found-key (m .rows) t g r at)
-        (λ u j n. elsewhere-not t g u j true n)
-        (λ l. absurd (true≢false (sym l ∙ settled-dead r (r .state) e (settling (transaction-of m t) e dec) ok))) p)
+      moved-pending (call.Settle t g) reply.Done (m .rows) h t g r r e at (found-key (m .rows) t g r at)
+      (λ u j n. elsewhere-not t g u j true n)
+      (λ l. absurd (true≢false (sym l ∙ settled-dead r (r .state) e (settling (transaction-of m t) e dec) ok))) p)
 
 -- On every day each live row is pending.
 pub live-day : (P : Chooses) (d : Day) (cs : List Call) → Live-pending (d .model .rows) (d .history)

@@ -17,23 +17,36 @@ use Rattle.std.specs.declared.option.Option.{Option}
 use Rattle.std.specs.declared.option.Option.the-variants.{Some, None}
 use Rattle.store.specs.declared.cell.Cell.{Cell}
 use Rattle.wire.specs.Keys.{ground-of}
+use Rattle.lines.proofs.Notes.{uninvolved}
 use Rattle.lines.specs.Locks.{row-of}
-use Rattle.lines.specs.Notes.{side-by, side-of, effect-by}
 use Rattle.lines.specs.declared.access.ReadLine.{ReadLine}
 use Rattle.lines.specs.declared.access.WriteLine.{WriteLine}
 use Rattle.lines.specs.declared.note.Effect.{Effect}
 use Rattle.lines.specs.declared.note.Effect.the-variants.{Nothing}
 use Rattle.lines.specs.declared.note.Note.{Note}
-use Rattle.lines.specs.declared.note.Order.{Order}
-use Rattle.lines.specs.declared.note.Order.the-variants as order
-use Rattle.lines.specs.declared.note.Side.the-variants as side
 use Rattle.lines.specs.declared.row.Row.{Row}
-use Rattle.lines.specs.declared.row.State.{State}
-use Rattle.lines.specs.declared.row.State.the-variants.{Running, Validated, Committed, Aborted}
 use Rattle.register.specs.Checks.{any}
 use Rattle.register.specs.Model.{Model}
-use Rattle.register.specs.Validation.{raise, raised-above, of-here, read-floor, stamps-of, write-floor, other-party, effect-with, note-effect,
-    effect-floor, effect-ceiling, is-before, is-after, floors, ceilings, joins, befores, afters}
+use Rattle.register.specs.Validation.{
+  raise,
+  raised-above,
+  of-here,
+  read-floor,
+  stamps-of,
+  write-floor,
+  other-party,
+  effect-with,
+  note-effect,
+  effect-floor,
+  effect-ceiling,
+  is-before,
+  is-after,
+  floors,
+  ceilings,
+  joins,
+  befores,
+  afters,
+}
 use Rattle.serial.specs.Alone.{Fresh, fresh-cell}
 
 -- A list of which each line gives nothing.
@@ -60,27 +73,13 @@ kept-none p e (x ∷ xs) = rw (e x) (kept-none p e xs)
 abbrev pub Unnamed : ℕ → Note → Type 0
 Unnamed t n = (eqb (n .first) t ≡ false) × (eqb (n .second) t ≡ false)
 
--- It says nothing of t.
-unnamed-side : (t : ℕ) (n : Note) → Unnamed t n → side-of n t ≡ side.Neither
-unnamed-side t n q = go (n .order)
-  where
-    go : (o : Order) → side-by o (n .first) (n .second) t ≡ side.Neither
-    go order.Before = rw (q .0, q .1) refl
-    go order.Apart = rw (q .0, q .1) refl
-
-neither : (s : State) (r : Row) → effect-by side.Neither s r ≡ Nothing
-neither Running r = refl
-neither Validated r = refl
-neither Committed r = refl
-neither Aborted r = refl
-
 module _ (m : Model) (t g : ℕ) where
   says-nothing : (n : Note) → Unnamed t n → note-effect m t g n ≡ Nothing
   says-nothing n q = whether (eqb (ground-of (n .key)) g) (of-row (row-of (m .rows) (other-party n t) g))
     where
       of-row : (o : Option Row) → effect-with n t o ≡ Nothing
       of-row None = refl
-      of-row (Some r) = ap (λ s. effect-by s (r .state) r) (unnamed-side t n q) ∙ neither (r .state) r
+      of-row (Some r) = uninvolved n t r (q .0) (q .1)
 
       whether : (b : Bool) {e : Effect} → e ≡ Nothing → cond b e Nothing ≡ Nothing
       whether true i = i
@@ -97,7 +96,7 @@ module _ (m : Model) (t g : ℕ) where
     joins-none on e r =
         and-right (eqb (r .ground) g) _
         (any-none (Unnamed t) (λ n. on (note-effect m t g n) && eqb (other-party n t) (r .transaction))
-          (λ n q. and-left (on (note-effect m t g n)) _ (ap on (says-nothing n q) ∙ e)) (m .notes) quiet)
+        (λ n q. and-left (on (note-effect m t g n)) _ (ap on (says-nothing n q) ∙ e)) (m .notes) quiet)
 
     pub no-befores : befores m t g ≡ []
     no-befores = ap (map (λ r. r .lower)) (kept-none (joins is-before m t g) (joins-none is-before refl) (m .rows))
@@ -116,8 +115,8 @@ module _ (m : Model) (t g : ℕ) where
         all-append Below (joined (read-floor t g) (m .reads)) _
         (all-joined _ Below (read-floor t g) (λ x q. of-read x q (of-here t g (x .transaction) (x .key)) refl) (m .reads) rs)
         (all-append Below (joined (write-floor (m .cells) t g) (m .writes)) _
-          (all-joined _ Below (write-floor (m .cells) t g) (λ x q. of-write x q (of-here t g (x .transaction) (x .key)) refl) (m .writes) ws)
-          (subst (All Below) (sym no-note-floors) tt))
+        (all-joined _ Below (write-floor (m .cells) t g) (λ x q. of-write x q (of-here t g (x .transaction) (x .key)) refl) (m .writes) ws)
+        (subst (All Below) (sym no-note-floors) tt))
       where
         of-read : (x : ReadLine) → (x .transaction ≡ t → x .seen .number < 268435455) → (b : Bool)
             → of-here t g (x .transaction) (x .key) ≡ b → All Below (cond b (pos (x .seen .number) ∷ []) [])

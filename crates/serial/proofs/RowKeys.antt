@@ -53,9 +53,9 @@ pub same-or-not : (t g u j : ℕ) → ((u ≡ t) × (j ≡ g)) ⊎ ((eqb t u && 
 same-or-not t g u j =
     ⊎-elim
     (λ (e : t ≡ u). ⊎-elim
-      (λ (d : g ≡ j). inl (sym e, sym d))
-      (λ (d : g ≡ j → ⊥). inr (and-right (eqb t u) _ (ne-eqb g j d)))
-      (cases-eq g j))
+    (λ (d : g ≡ j). inl (sym e, sym d))
+    (λ (d : g ≡ j → ⊥). inr (and-right (eqb t u) _ (ne-eqb g j d)))
+    (cases-eq g j))
     (λ (e : t ≡ u → ⊥). inr (and-left (eqb t u) _ (ne-eqb t u e)))
     (cases-eq t u)
 
@@ -81,14 +81,14 @@ module _ (rows : List Row) (t g : ℕ) (r : Row) (e : Event) where
       → row-of (row-moved t g r e rows) t g ≡ Some (moved r e .0)
   own-moved x at k =
       find-replaced same-row row-key (key t g) (moved r e .0) x
-        (ap (λ h. same-row h (key t g)) (moves-owner r (r .state) e) ∙ k) rows at
+      (ap (λ h. same-row h (key t g)) (moves-owner r (r .state) e) ∙ k) rows at
 
   pub other-moved : (u j : ℕ) → (eqb t u && eqb g j) ≡ false → same-row (row-key r) (key t g) ≡ true
       → row-of (row-moved t g r e rows) u j ≡ row-of rows u j
   other-moved u j n k =
       find-other same-row row-key (key u j) (key t g) (moved r e .0)
-        (other-key t g u j n (moved r e .0) (ap (λ h. same-row h (key t g)) (moves-owner r (r .state) e) ∙ k))
-        (λ x s. other-key t g u j n x s) rows
+      (other-key t g u j n (moved r e .0) (ap (λ h. same-row h (key t g)) (moves-owner r (r .state) e) ∙ k))
+      (λ x s. other-key t g u j n x s) rows
 
 -- Rows that make way keep their keys.
 pub pushed-rows : (m : Model) (t g : ℕ) (range : ℤ × ℤ) (rows : List Row) (u j : ℕ)

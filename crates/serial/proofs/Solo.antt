@@ -53,7 +53,17 @@ use Rattle.serial.specs.Alone.{Fresh, fresh-cell, caller, key-in}
 use Rattle.serial.specs.Days.{Meaning}
 use Rattle.serial.proofs.Found.{or-else, find-append, find-replaced, find-all, all-replaced}
 use Rattle.serial.proofs.Outcomes.{
-    low, high, chosen, begin-cases, read-cases, prewrite-cases, validate-cases, decide-cases, withdraw-cases, settle-cases}
+  low,
+  high,
+  chosen,
+  begin-cases,
+  read-cases,
+  prewrite-cases,
+  validate-cases,
+  decide-cases,
+  withdraw-cases,
+  settle-cases,
+}
 use Rattle.serial.proofs.Pending.{running-is}
 use Rattle.serial.proofs.Quiet.{Unnamed, no-ceilings, no-befores, no-afters, joins-none, floors-below, raised-least, raised-most}
 use Rattle.serial.proofs.RowKeys.{key, found-key, other-moved, pushed-rows, added-row, same-or-not}
@@ -175,8 +185,8 @@ module _ (t : ℕ) (found : Cells) where
           subst (λ us. All (Unnamed t) (m .notes ++ (map (λ r. before-note k r t) us ++ map (apart-note k t) (others t (write-locks m k)))))
           (sym (own-locks t (m .rows) (s .only) k (map read-key (m .reads))))
           (subst (λ us. All (Unnamed t) (m .notes ++ map (apart-note k t) us))
-            (sym (own-locks t (m .rows) (s .only) k (map write-key (m .writes))))
-            (all-append (Unnamed t) (m .notes) [] (s .notes) tt));
+          (sym (own-locks t (m .rows) (s .only) k (map write-key (m .writes))))
+          (all-append (Unnamed t) (m .notes) [] (s .notes) tt));
       rows = all-append _ (m .rows) _ (s .rows) (needed-fine t (ground-of k) (row-of (m .rows) t (ground-of k)));
       reads = s .reads;
       writes = all-push _ (m .writes) _ (s .writes) (λ _. here k f);
@@ -224,11 +234,12 @@ module _ (t : ℕ) (found : Cells) where
         pushed-fine x f e =
             let p = f e in
             let a = joins-none m t g (s .notes) is-after refl x in
-            let b = joins-none m t g (s .notes) is-before refl x in
-            (ap (λ c. cond c (lower (x .upper) (chosen m t g P r .0)) (x .upper)) b ∙ p .0,
+            let b = joins-none m t g (s .notes) is-before refl x in (
+              ap (λ c. cond c (lower (x .upper) (chosen m t g P r .0)) (x .upper)) b ∙ p .0,
               subst (λ c. pos 0 ≤ℤ cond c (raise (x .lower) (chosen m t g P r .1)) (x .lower)) (sym a) (p .1),
               subst (λ c. cond c (raise (x .lower) (chosen m t g P r .1)) (x .lower) ≤ℤ pos 268435455) (sym a) (p .2),
-              p .3)
+              p .3,
+            )
 
         moved-fine : Fine (moved r (Pass (chosen m t g P r .0) (chosen m t g P r .1)) .0)
         moved-fine =
@@ -239,10 +250,10 @@ module _ (t : ℕ) (found : Cells) where
         passed-only u j y q l =
             ⊎-elim (λ (e : (u ≡ t) × (j ≡ g)). e .0)
             (λ (e : (eqb t u && eqb g j) ≡ false).
-              go (row-of (m .rows) u j) refl
-              (sym (pushed-rows m t g (chosen m t g P r) (m .rows) u j)
-                ∙ (sym (other-moved (map (pushed m t g (chosen m t g P r)) (m .rows)) t g r
-                    (Pass (chosen m t g P r .0) (chosen m t g P r .1)) u j e (found-key (m .rows) t g r at)) ∙ q)))
+            go (row-of (m .rows) u j) refl
+            (sym (pushed-rows m t g (chosen m t g P r) (m .rows) u j)
+            ∙ (sym (other-moved (map (pushed m t g (chosen m t g P r)) (m .rows)) t g r
+            (Pass (chosen m t g P r .0) (chosen m t g P r .1)) u j e (found-key (m .rows) t g r at)) ∙ q)))
             (same-or-not t g u j)
           where
             go : (o : Option Row) → row-of (m .rows) u j ≡ o → mapped (pushed m t g (chosen m t g P r)) o ≡ Some y → u ≡ t
@@ -343,23 +354,23 @@ module _ (t : ℕ) (found : Cells) where
       own-step (call.Begin u) e = begin-cases m u (λ o. Then (call.Begin u) (done (o .1)) (o .0)) (λ _ _. inr s) (λ _ _. inr (same-books m s _))
       own-step (call.Read u k) e =
           rw e (read-cases m t k (λ o. Then (call.Read t k) (value-reply (o .1)) (o .0)) (λ _ _. inr s) (λ _ _ _ _. inr s)
-            (λ c _ at _ none _ f. inr (read-solo m s k c at none (own-key k f))))
+          (λ c _ at _ none _ f. inr (read-solo m s k c at none (own-key k f))))
       own-step (call.Prewrite u k v) e =
           rw e (prewrite-cases m t k v (λ o. Then (call.Prewrite t k v) (done (o .1)) (o .0)) (λ _ _. inr s)
-            (λ w _ _ f. inr (again-solo m s k v w (own-key k f))) (λ c _ _ _ _ f. inr (prewrite-solo m s k v (own-key k f))))
+          (λ w _ _ f. inr (again-solo m s k v w (own-key k f))) (λ c _ _ _ _ f. inr (prewrite-solo m s k v (own-key k f))))
       own-step (call.Validate u g) e =
           rw e (validate-cases m t g P (λ o. Then (call.Validate t g) (verdict-reply (o .1)) (o .0)) (λ _ _. inr s)
-            (λ r _ at _ q _. absurd (never-fails m s P g r at q))
-            (λ r _ at run _ _. inr (pass-solo m s P g r at means (running-is r run))))
+          (λ r _ at _ q _. absurd (never-fails m s P g r at q))
+          (λ r _ at run _ _. inr (pass-solo m s P g r at means (running-is r run))))
       own-step (call.Decide u) e =
           rw e (decide-cases m t (λ o. Then (call.Decide t) (decide-reply (o .1)) (o .0)) (λ _ _. inr s)
-            (λ now _ _. inl (closing m (decision-by m t) now (never-open (rows-of m t)))))
+          (λ now _ _. inl (closing m (decision-by m t) now (never-open (rows-of m t)))))
       own-step (call.Withdraw u) e =
           rw e (withdraw-cases m t (λ o. Then (call.Withdraw t) (withdraw-reply (o .1)) (o .0)) (λ _ _. inr s)
-            (λ now _. inl (closing m decision.Aborted now (λ q. let z : _≡_ {A = ℕ} 0 1 = cc in absurd (omega arith)))))
+          (λ now _. inl (closing m decision.Aborted now (λ q. let z : _≡_ {A = ℕ} 0 1 = cc in absurd (omega arith)))))
       own-step (call.Settle u g) e =
           rw e (settle-cases m t g (λ o. Then (call.Settle t g) (done (o .1)) (o .0)) (λ _ _. inr s)
-            (λ d r now _ _ _. inl (same-closed m (settled m t g r d) (settled-closed m d now) refl)))
+          (λ d r now _ _ _. inl (same-closed m (settled m t g r d) (settled-closed m d now) refl)))
 
     pub solo-step : (c : Call) → caller c ≡ t → Now m → Then c (step P m c .1) (step P m c .0)
     solo-step c e n f = ⊎-elim (λ (x : Closed t m). inl (closed-step c e x)) (λ (s : Solo t found m). own-step s c e f) n

@@ -1,12 +1,11 @@
 -- Putting a cell into a flat store.
-use Prim.Native.Nat.{ℕ, _*_, _/_, _%_, _<_}
-use mathlib.Core.Bool.{Bool, true, false, cond, _&&_}
+use Prim.Native.Nat.{ℕ, _*_, _/_, _%_}
+use mathlib.Core.Bool.{Bool, true, false}
 use mathlib.Core.List.{List}
 use mathlib.Core.Logic.{⊎-elim}
 use mathlib.Core.Path.{_≡_, refl, sym, ap, _∙_, fun-ext}
 use native.Mathlib.Omega.{arith}
 use lib.Dec.{eqb, leb}
-use lib.ListN.{length}
 use Rattle.std.proofs.shelf.Tests.{and-parts, cases-bool, cases-eq, cond-false, cond-true, eq-eqb, eqb-true, ne-eqb}
 use Rattle.std.specs.declared.option.Option.the-variants.{Some, None}
 use Rattle.std.specs.declared.result.Result.the-variants.{Ok}
@@ -14,7 +13,7 @@ use Rattle.store.specs.declared.cell.Cell.{Cell}
 use Rattle.store.specs.declared.memory.Layout.the-variants.{Bare}
 use Rattle.store.specs.Flats.{flat-fault, flat-has, flat-cells}
 use Rattle.store.specs.Memory.{cell-at, cell-cause, shape-cause}
-use Rattle.store.specs.Stores.{Put, with-cell}
+use Rattle.store.specs.Stores.{Put}
 use Rattle.store.proofs.Puts.{after, length-after, other-cell, lines-kept, shape-kept, whole-none}
 
 module _ (good : Bool) (g : ℕ) (ws : List ℕ) (k : ℕ) (x : Cell) where

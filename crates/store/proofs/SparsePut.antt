@@ -1,6 +1,6 @@
 -- What a sparse store means, and putting a cell into one.
-use Prim.Native.Nat.{ℕ, zero, suc, _+_, _*_, _-_, _<_, _≤_}
-use mathlib.Core.Bool.{Bool, true, false, cond, not, _||_}
+use Prim.Native.Nat.{ℕ, zero, suc, _+_, _*_, _-_, _<_}
+use mathlib.Core.Bool.{Bool, true, false, cond, not}
 use mathlib.Core.List.{List}
 use mathlib.Core.Logic.{⊎-elim}
 use mathlib.Core.Path.{_≡_, refl, sym, ap, _∙_, fun-ext}
@@ -15,14 +15,13 @@ use Rattle.std.specs.declared.option.Option.the-variants.{Some, None}
 use Rattle.std.specs.declared.result.Result.the-variants.{Ok}
 use Rattle.wire.specs.Words.{key-in, low-of}
 use Rattle.store.specs.declared.cell.Cell.{Cell}
-use Rattle.store.specs.declared.fault.Cause.{Cause}
 use Rattle.store.specs.declared.fault.Cause.the-variants.{KeysNotRising}
 use Rattle.store.specs.declared.fault.Fault.{Fault}
 use Rattle.store.specs.declared.memory.Layout.the-variants.{Keyed}
 use Rattle.store.specs.Faults.{cause-in, or-else}
 use Rattle.store.specs.Memory.{cell-at, cell-cause, line-key, line-cause, lines-in, rising-cause, shape-cause}
 use Rattle.store.specs.Sparses.{found-cells, found-line, line-cell, line-naming, sought, sparse-fault, sparse-means}
-use Rattle.store.specs.Stores.{Cells, Put, with-cell}
+use Rattle.store.specs.Stores.{Put}
 use Rattle.store.proofs.Faults.{none-at}
 use Rattle.store.proofs.Halving.{found-by-keys, found-has, found-naming}
 use Rattle.store.proofs.Puts.{after, length-after, lines-kept, other-cell, other-key, second-none, shape-kept, whole-none}

@@ -1,5 +1,5 @@
 -- A stamp is known by its number, and comes back from its word.
-use Prim.Native.Nat.{ℕ, _+_, _*_, _/_, _%_, _≤_, _<_}
+use Prim.Native.Nat.{ℕ, _≤_, _<_}
 use mathlib.Core.Path.{_≡_, ap, subst, sym, _∙_}
 use native.Mathlib.Bridge.{le-prop}
 use native.Mathlib.Omega.{arith}

@@ -1,6 +1,6 @@
 ghost use mathlib.Core.List.{map};
 ghost use mathlib.Core.Path.{_≡_};
-ghost use Rattle.book.specs.Books.{held, larger, greatest};
+ghost use Rattle.book.specs.Books.{held, larger, greatest, None-above};
 use crate::book::Book;
 use crate::line::Line;
 
@@ -26,9 +26,10 @@ fn largest_of<L: Line>(lines: &[L]) -> Option<L::Key>
 }
 
 impl<'a, L: Line> Book<'a, L> {
-    // The largest key, or nothing in an empty book.
+    // The largest key, or nothing in an empty book. No key is above it.
     pub fn largest(&self) -> Option<L::Key>
-        ensures { λ r. ⌜ r ≡ greatest order (map keyed (held (now (self .entry)))) ⌝ }
+        ensures is { λ r. ⌜ r ≡ greatest order (map keyed (held (now (self .entry)))) ⌝ }
+        ensures most { λ r. ⌜ None-above order r (map keyed (held (now (self .entry)))) ⌝ }
     {
         largest_of(self.lines())
     }

@@ -1,8 +1,8 @@
-use mathlib.Core.Path.{_≡_, sym, ap, _∙_}
+use mathlib.Core.Path.{sym, ap, _∙_}
 use native.Mathlib.Omega.{arith}
-use Prim.Native.Nat.{_/_, _-_}
+use Prim.Native.Nat.{_/_}
 use lib.ListN.{length}
-use Rattle.store.specs.Memory.{line-cause, lines-in}
+use Rattle.store.specs.Memory.{line-cause}
 use Rattle.store.proofs.Faults.{fault-here, fault-on, fault-past}
 use Rattle.store.proofs.memory.lines_fault.Needs as need
 

@@ -1,7 +1,6 @@
 use mathlib.Core.Path.{_∙_}
 use native.Mathlib.Omega.{arith}
-use Prim.Native.Nat.{_<_, _/_}
-use lib.ListN.{length}
+use Prim.Native.Nat.{_<_}
 use Rattle.store.specs.Memory.{line-key}
 use Rattle.store.specs.Sparses.{middle}
 use Rattle.store.proofs.Halving.{found-here, found-up, found-down}

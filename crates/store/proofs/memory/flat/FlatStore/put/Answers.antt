@@ -1,10 +1,8 @@
-use mathlib.Core.Bool.{true}
 use mathlib.Core.Path.{_≡_, refl, sym, ap, subst, _∙_}
 use Prim.Native.Nat.{ℕ, _*_, _%_}
 use mathlib.Core.List.{List}
 use Rattle.std.specs.declared.option.Option.the-variants.{None}
 use Rattle.std.specs.declared.result.Result.the-variants.{Ok}
-use Rattle.store.specs.declared.memory.Layout.the-variants.{Bare}
 use Rattle.store.specs.Flats.{flat-cells, flat-fault}
 use Rattle.store.specs.Memory.{cell-at, cell-cause}
 use Rattle.store.specs.Stores.{Put}
