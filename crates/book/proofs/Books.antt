@@ -1,20 +1,27 @@
 -- The lines that a book holds.
 --   length-held      how many they are: the count, and no more than the room
+--   line-at          the line at a place that was found, or nothing
 --   line-at-place    the line at the place found is the first with the key
 use mathlib.Core.Bool.{Bool, true, false, cond}
 use mathlib.Core.List.{List, [], _∷_, _++_, append-assoc}
 use mathlib.Core.Path.{_≡_, refl, _∙_}
-use Prim.Native.Nat.{_+_, min}
+use Prim.Native.Nat.{ℕ, _+_, min}
 use native.Mathlib.Omega.{arith}
 use lib.ListN.{length}
 use Rattle.std.proofs.shelf.Lists.{length-take, length-push}
-use Rattle.std.specs.declared.option.Option.the-variants.{Some}
-use Rattle.book.specs.Books.{memory, room, held, nth, place-from, place, line-with, line-at}
+use Rattle.std.specs.declared.option.Option.{Option}
+use Rattle.std.specs.declared.option.Option.the-variants.{Some, None}
+use Rattle.book.specs.Books.{memory, room, held, nth, place-from, place, line-with}
 use Rattle.book.specs.declared.book.Book.{Book}
 
 -- How many lines a book holds: its count, and no more than its room.
 pub length-held : {L : Type 0} (b : Book L) → length (held b) ≡ min (b .count) (room b)
 length-held b = length-take _ (memory b) ∙ omega arith
+
+-- The line at a place, where there is one.
+abbrev pub line-at : {L : Type 0} → List L → Option ℕ → Option L
+line-at xs None = None
+line-at xs (Some i) = nth xs i
 
 -- A line that others stand before and after.
 nth-between : {L : Type 0} (xs ys : List L) (y : L) → nth (xs ++ y ∷ ys) (length xs) ≡ Some y

@@ -4,7 +4,6 @@
 --   nth xs i             the line at the place i, counted from 0, or nothing past the end
 --   place same f k xs    the place of the first line whose key (by f) is the same as k, or nothing
 --   line-with same f k xs   that line itself, or nothing
---   line-at xs o         the line at a place that was found, or nothing
 --   greatest o ks        the largest key by the order o, or nothing
 --   None-above o k ks    none of the keys ks is above k
 --   Added x b d r        adding x to the book b left the book d and answered r
@@ -70,11 +69,6 @@ place same f k xs = place-from 0 same f k xs
 abbrev pub line-with : {L K : Type 0} → (K → K → Bool) → (L → K) → K → List L → Option L
 line-with same f k [] = None
 line-with same f k (x ∷ xs) = cond (same (f x) k) (Some x) (line-with same f k xs)
-
--- The line at a place, where there is one.
-abbrev pub line-at : {L : Type 0} → List L → Option ℕ → Option L
-line-at xs None = None
-line-at xs (Some i) = nth xs i
 
 -- The larger of two keys, or the first where neither is.
 abbrev pub larger : {K : Type 0} → (K → K → Ordering) → K → K → K

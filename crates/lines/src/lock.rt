@@ -7,6 +7,7 @@ use crate::row::RowKey;
 use crate::row::RowLine;
 use crate::row::State;
 use book::book::Book;
+use wire::place::Place;
 
 impl Row {
     // Whether the row lets its transaction's reads and writes at its ground stand as soft locks.
@@ -23,7 +24,7 @@ pub fn lock_stands(rows: &Book<Row>, transaction: u32, key: u16) -> bool
 {
     match rows.find(RowKey {
         transaction,
-        ground: key / 8192,
+        ground: Place::of_key(key).ground,
     }) {
         Some(row) => row.holds_lock(),
         None => false,

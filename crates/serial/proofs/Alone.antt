@@ -39,7 +39,7 @@ use Rattle.register.specs.declared.call.Call.the-variants as call
 use Rattle.serial.specs.Alone.{None-pending, Fresh, Commits, Alone, caller, key-in, keys-of}
 use Rattle.serial.specs.Days.{Day, new-day, next, day-after, Meaning}
 use Rattle.serial.specs.Ledger.{History, accepted}
-use Rattle.serial.proofs.Begun.{Known, known-begun, known-day}
+use Rattle.serial.proofs.Begun.{all-first, Known, known-begun, known-day}
 use Rattle.serial.proofs.Outcomes.{begin-cases, decide-cases}
 use Rattle.serial.proofs.Pending.{Live-pending, live-day}
 use Rattle.serial.proofs.Quiet.{Unnamed, any-none}
@@ -126,10 +126,6 @@ keys-grow Q P t d (c ∷ cs) a = later (key-in t c (step P (d .model) c .1)) (ke
     later [] h = h
     later (x ∷ xs) h = later xs (h .1)
 
-front : (Q : ℕ → Type 0) (xs ys : List ℕ) → All Q (xs ++ ys) → All Q xs
-front Q [] ys a = tt
-front Q (x ∷ xs) ys a = (a .0, front Q xs ys (a .1))
-
 -- It is decided or alone after all its calls.
 solo-day : (P : Chooses) → Meaning P → (t : ℕ) (found : Cells) (d : Day) (own : List Call) → Now t found (d .model)
     → All (λ c. caller c ≡ t) own → All (Fresh found) (keys-of (day-after P d own .history) t)
@@ -138,7 +134,7 @@ solo-day P means t found d [] n a f = n
 solo-day P means t found d (c ∷ cs) n a f =
     solo-day P means t found (next P d c) cs
     (solo-step t found P means (d .model) c (a .0) n
-    (front (Fresh found) (key-in t c (step P (d .model) c .1)) _ (keys-grow (Fresh found) P t (next P d c) cs f)))
+    (all-first (Fresh found) (key-in t c (step P (d .model) c .1)) _ (keys-grow (Fresh found) P t (next P d c) cs f)))
     (a .1) f
 
 -- A number above all in the books is none of them.

@@ -64,7 +64,7 @@ all-unmap Q f [] a = tt
 all-unmap Q f (x ∷ xs) a = (a .0, all-unmap Q f xs (a .1))
 
 -- What holds of all of two lists holds of the first.
-all-first : {X : Type 0} (Q : X → Type 0) (xs ys : List X) → All Q (xs ++ ys) → All Q xs
+pub all-first : {X : Type 0} (Q : X → Type 0) (xs ys : List X) → All Q (xs ++ ys) → All Q xs
 all-first Q [] ys a = tt
 all-first Q (x ∷ xs) ys a = (a .0, all-first Q xs ys (a .1))
 

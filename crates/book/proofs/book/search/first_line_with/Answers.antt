@@ -1,6 +1,5 @@
 use mathlib.Core.Path.{ap, _∙_}
-use Rattle.book.specs.Books.{line-at}
-use Rattle.book.proofs.Books.{line-at-place}
+use Rattle.book.proofs.Books.{line-at, line-at-place}
 use Rattle.book.proofs.book.search.first_line_with.Needs as need
 
 pub returns-in-Some : need.returns-in-Some
