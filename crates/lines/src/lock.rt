@@ -21,7 +21,7 @@ pub fn lock_stands(rows: &Book<Row>, transaction: u32, key: u16) -> bool
 {
     match rows.find(RowKey {
         transaction,
-        ground: Place::of_key(key).ground,
+        ground: Place::of_key(key).burial_ground,
     }) {
         Some(row) => row.holds_lock(),
         None => false,

@@ -45,7 +45,7 @@ fn row_needed(rows: &Book<Row>, access: AccessKey) -> Option<Row>
     ensures { one_if result ≡ row_for access rows.now }
 {
     let transaction = access.transaction;
-    let ground = Place::of_key(access.key).ground;
+    let ground = Place::of_key(access.key).burial_ground;
     match rows.find(RowKey {
         transaction,
         ground,

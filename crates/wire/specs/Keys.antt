@@ -35,15 +35,15 @@ key_at g n f = 8192 * g + 4 * n + field_number f
 
 -- The key of a place.
 abbrev pub key_of : Place → ℕ
-key_of p = key_at p.ground p.plot p.field
+key_of p = key_at p.burial_ground p.plot p.field
 
 -- The parts of the key k are those of the place p.
 pub record Names (k : ℕ) (p : Place) : Type 0 where
-  pub ground : ground_of k ≡ p.ground
+  pub ground : ground_of k ≡ p.burial_ground
   pub plot : plot_of k ≡ p.plot
   pub field : field_of k ≡ p.field
 
 -- A place made of three parts has them; nothing is made exactly of a ground above 7 or a plot above 2,047.
 abbrev pub placed : Option Place → ℕ → ℕ → Field → Type 0
-placed (Some p) g n f = (p.ground ≡ g) × (p.plot ≡ n) × (p.field ≡ f)
+placed (Some p) g n f = (p.burial_ground ≡ g) × (p.plot ≡ n) × (p.field ≡ f)
 placed None g n f = g < 8 → n < 2048 → ⊥

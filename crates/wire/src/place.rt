@@ -15,9 +15,9 @@ pub enum Field {
 // Where a cell belongs: a ground is one of eight burial grounds, a plot one of its 2,048 graves.
 #[derive(Clone, Copy, PartialEq, Eq, Debug)]
 pub struct Place {
-    pub ground: u16,
+    pub burial_ground: u16,
     pub plot: u16,
     pub field: Field,
-    ghost ground_within: { ground < 8 },
+    ghost ground_within: { burial_ground < 8 },
     ghost plot_within: { plot < 2048 },
 }

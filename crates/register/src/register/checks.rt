@@ -101,7 +101,7 @@ impl<'a, S: Store, P: Policy> Register<'a, S, P> {
     pub(super) fn unless_past(&self, access: AccessKey) -> Result<(), Refusal>
         ensures { result ≡ unless_past (row_of (held self.now.rows) access.transaction (ground_of access.key)) }
     {
-        match self.row_of(access.transaction, Place::of_key(access.key).ground) {
+        match self.row_of(access.transaction, Place::of_key(access.key).burial_ground) {
             Some(row) => running(&row),
             None => Ok(()),
         }

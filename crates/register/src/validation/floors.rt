@@ -11,7 +11,7 @@ use wire::place::Place;
 fn is_here(transaction: u32, ground: u16, owner: u32, key: u16) -> bool
     ensures { result ≡ of_here transaction ground owner key }
 {
-    owner == transaction && Place::of_key(key).ground == ground
+    owner == transaction && Place::of_key(key).burial_ground == ground
 }
 
 // A lower bound raised above what a read line saw, if it is one of the transaction here.

@@ -36,7 +36,7 @@ impl Place {
     {
         if ground < 8 && plot < 2048 {
             Some(Place {
-                ground,
+                burial_ground: ground,
                 plot,
                 field,
             })
@@ -51,7 +51,7 @@ impl Place {
         ensures back { key_of result ≡ key }
     {
         Place {
-            ground: key / 8192,
+            burial_ground: key / 8192,
             plot: key / 4 % 2048,
             field: field_of(key),
         }
@@ -62,6 +62,6 @@ impl Place {
         ensures value { result ≡ key_of self }
         ensures back { Names result self }
     {
-        8192 * self.ground + 4 * self.plot + field_number(self.field)
+        8192 * self.burial_ground + 4 * self.plot + field_number(self.field)
     }
 }

@@ -21,8 +21,8 @@ loop-rest-preserved c =
     let bs = c.loop-rest.rest.now in
     let so_far = vec_items c.loop-rest.words in
     let h : 4 ≤ length bs = search rules in
-    let more = ap (λ w. w ∷ words_in (drop 4 bs)) c.from-le-bytes.ensures ∙ words_more bs h in
+    let more = ap (λ w. w ∷ words_in (drop 4 bs)) c.from_le_bytes.ensures ∙ words_more bs h in
     let left : length (drop 4 bs) % 4 ≡ length c.args.bytes.now % 4 =
     simp length-drop (let l = c.loop-rest.invariant.1 in omega arith) in
-    rw (c.in-ok-push.ensures.items, take_rest bs 4)
+    rw (c.in_ok-push.ensures.items, take_rest bs 4)
     (append_assoc so_far _ _ ∙ ap (λ x. so_far ++ x) more ∙ c.loop-rest.invariant.0, left)

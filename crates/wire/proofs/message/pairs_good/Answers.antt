@@ -9,5 +9,5 @@ loop-rest-preserved c =
     let ws = c.loop-rest.rest.now in
     let h : 2 ≤ length ws = search rules in
     let pair : is_some (pair_in (get_or ws 0 0) (get_or ws 1 0)) ≡ true =
-    sym (ap is_some c.pair_in.ensures) ∙ c.if-is-none.ensures in
+    sym (ap is_some c.pair_in.ensures) ∙ c.if-is_none.ensures in
     rw (take_rest ws 2) (pairs_more ws h pair ∙ c.loop-rest.invariant)

@@ -5,7 +5,7 @@ use Rattle.wire.proofs.message.Message.head.Goals as goal
 use Rattle.wire.proofs.message.Message.head.Goals.{
   then-count-eq0-via-then-count-eq0,
   then-count-eq0-via-else-count-eq0+then-count-gt64,
-  then-count-eq0-via-else-count-eq0+else-count-gt64+then-not-pairs-good,
+  then-count-eq0-via-else-count-eq0+else-count-gt64+then-not-pairs_good,
 }
 
 -- No count of pairs outside 1 to 64 is good.
@@ -24,8 +24,8 @@ returns-then-count-eq0 c =
     elim c.then-count-eq0.branch [
       | then-count-eq0-via-then-count-eq0 w ↦ and_left _ _ (too_few n w.if-count-eq0.true)
       | then-count-eq0-via-else-count-eq0+then-count-gt64 w ↦ and_left _ _ (too_many n w.if-count-gt64.true)
-      | then-count-eq0-via-else-count-eq0+else-count-gt64+then-not-pairs-good w ↦
-          and_right (count_good n) _ (sym w.if-not-pairs-good.ensures)
+      | then-count-eq0-via-else-count-eq0+else-count-gt64+then-not-pairs_good w ↦
+          and_right (count_good n) _ (sym w.if-not-pairs_good.ensures)
     ] in
     let unsaid : sayable (said c.args.self) ≡ false =
     ap (λ m. sayable (said m)) c.in-Prewrite.is ∙ and_right (leb c.in-Prewrite.transaction 4095) _ bad in
