@@ -6,13 +6,9 @@ use Rattle.std.specs.Ordering.{is_lt, ordering_reverse}
 use Rattle.std.specs.List.{AllByRecursion as All}
 use Rattle.book.specs.Books.{larger, above, greatest, NoneAbove}
 
-module _ {K : Type 0} (o : K → K → Ordering) (total : IsTotalOrder (λ (x y : K) (r : Ordering). r ≡ o x y)) where
-  -- The order of the total order is this one.
-  is : (x y : K) → o x y ≡ (λ (x y : K) (r : Ordering). r ≡ o x y) x y
-  is x y = refl
-
+module _ {K : Type 0} (o : K → K → Ordering) (total : IsTotalOrder o) where
   turned : (x y : K) → o x y ≡ ordering_reverse (o y x)
-  turned x y = is x y ∙ (total.antisymm x y ∙ ap ordering_reverse (sym (is y x)))
+  turned x y = total.antisymm x y
 
   -- The key y is not below x.
   abbrev Reaches : K → K → Type 0
@@ -35,12 +31,12 @@ module _ {K : Type 0} (o : K → K → Ordering) (total : IsTotalOrder (λ (x y 
       go : (r s : Ordering) → o z x ≡ r → o y x ≡ s → is_lt s ≡ false → is_lt r ≡ false
       go Less Less p q e = absurd (true≢false e)
       go Less Equal p q e =
-          let up : (λ (x y : K) (r : Ordering). r ≡ o x y) x z ≡ Greater = sym (is x z) ∙ (turned x z ∙ ap ordering_reverse p) in
-          let same : (λ (x y : K) (r : Ordering). r ≡ o x y) y z ≡ Greater = total.congr y x z (sym (is y x) ∙ q) ∙ up in
-          absurd (less p (turned z y ∙ ap ordering_reverse (is y z ∙ same)))
+          let up : o x z ≡ Greater = turned x z ∙ ap ordering_reverse p in
+          let same : o y z ≡ Greater = total.congr y x z q ∙ up in
+          absurd (less p (turned z y ∙ ap ordering_reverse same))
       go Less Greater p q e =
-          let down : (λ (x y : K) (r : Ordering). r ≡ o x y) x y ≡ Less = sym (is x y) ∙ (turned x y ∙ ap ordering_reverse q) in
-          absurd (less p (is z y ∙ total.trans z x y (sym (is z x) ∙ p) down))
+          let down : o x y ≡ Less = turned x y ∙ ap ordering_reverse q in
+          absurd (less p (total.trans z x y p down))
       go Equal s p q e = refl
       go Greater s p q e = refl
 

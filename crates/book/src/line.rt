@@ -27,5 +27,5 @@ pub trait Line: Copy {
     ghost ordered: { (x y : Self.Key) (r : Ordering) → (r ≡ Self.Key.Ord.cmp x y) → r ≡ order x y };
 
     // It is a total order.
-    ghost total: { IsTotalOrder (λ (x y : Self.Key) (r : Ordering). r ≡ order x y) };
+    ghost total: { IsTotalOrder order };
 }

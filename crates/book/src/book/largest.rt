@@ -6,14 +6,14 @@ use crate::line::Line;
 
 // The larger of two keys, or the first where neither is.
 fn larger<L: Line>(a: L::Key, b: L::Key) -> L::Key
-    ensures { result ≡ larger order a b }
+    ensures { result ≡ larger L.order a b }
 {
     if a.cmp(&b).is_lt() { b } else { a }
 }
 
 // The largest key of some lines, or nothing where there are none.
 fn largest_of<L: Line>(lines: &[L]) -> Option<L::Key>
-    ensures { result ≡ greatest order (map keyed lines.now) }
+    ensures { result ≡ greatest L.order (map L.keyed lines.now) }
 {
     let [first, rest @ ..] = lines else {
         return None;
@@ -28,8 +28,8 @@ fn largest_of<L: Line>(lines: &[L]) -> Option<L::Key>
 impl<'a, L: Line> Book<'a, L> {
     // The largest key, or nothing in an empty book. No key is above it.
     pub fn largest(&self) -> Option<L::Key>
-        ensures is { result ≡ greatest order (map keyed (held self.now)) }
-        ensures most { NoneAbove order result (map keyed (held self.now)) }
+        ensures is { result ≡ greatest L.order (map L.keyed (held self.now)) }
+        ensures most { NoneAbove L.order result (map L.keyed (held self.now)) }
     {
         largest_of(self.lines())
     }

@@ -6,14 +6,14 @@ use crate::line::Line;
 
 // Whether a line has the key. Of all the search only this leans on the order of keys.
 fn has_key<L: Line>(line: &L, key: L::Key) -> bool
-    ensures { result ≡ same (keyed line.now) key }
+    ensures { result ≡ L.same (L.keyed line.now) key }
 {
     line.key().cmp(&key).is_eq()
 }
 
 // The place of the first line with the key, or nothing.
 fn first_with<L: Line>(lines: &[L], key: L::Key) -> Option<usize>
-    ensures place { result ≡ place same keyed key lines.now }
+    ensures place { result ≡ place L.same L.keyed key lines.now }
     ensures within { IfSome result (λ i. i < length lines.now) }
 {
     for (i, line) in lines.iter().enumerate() {
@@ -26,7 +26,7 @@ fn first_with<L: Line>(lines: &[L], key: L::Key) -> Option<usize>
 
 // The first line with the key, or nothing.
 fn first_line_with<L: Line>(lines: &[L], key: L::Key) -> Option<L>
-    ensures { result ≡ line_with same keyed key lines.now }
+    ensures { result ≡ line_with L.same L.keyed key lines.now }
 {
     match first_with(lines, key) {
         Some(i) => line_at(lines, i),
@@ -37,7 +37,7 @@ fn first_line_with<L: Line>(lines: &[L], key: L::Key) -> Option<L>
 impl<'a, L: Line> Book<'a, L> {
     // The number of the first line with the key, or nothing.
     pub fn search(&self, key: L::Key) -> Option<usize>
-        ensures place { result ≡ place same keyed key (held self.now) }
+        ensures place { result ≡ place L.same L.keyed key (held self.now) }
         ensures within { IfSome result (λ i. i < length (held self.now)) }
     {
         first_with(self.lines(), key)
@@ -45,7 +45,7 @@ impl<'a, L: Line> Book<'a, L> {
 
     // The first line with the key, or nothing.
     pub fn find(&self, key: L::Key) -> Option<L>
-        ensures { result ≡ line_with same keyed key (held self.now) }
+        ensures { result ≡ line_with L.same L.keyed key (held self.now) }
     {
         first_line_with(self.lines(), key)
     }

@@ -8,7 +8,7 @@ returns-in-Some g c =
     let lines = held_set _ _ c.args.book.now _ c.set.result c.set.ensures.cases found.within in
     search (rules, replaced_at)
 
-pub returns-in-default : goal.returns-in-default
-returns-in-default g c =
-    let none = c.in-default.ensures.place in
+pub returns-in_default : goal.returns-in_default
+returns-in_default g c =
+    let none = c.in_default.ensures.place in
     search (rules, replaced_none)

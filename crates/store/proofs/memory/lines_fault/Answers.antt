@@ -13,7 +13,7 @@ returns-in-Some c =
 pub loop-i-preserved : goal.loop-i-preserved
 loop-i-preserved c =
     let n = ap (λ w. length c.args.words.now / w) c.width.ensures.value in
-    sym (fault_on (line_cause c.args.layout c.args.words.now) c.loop-i.i _ (omega arith) (sym c.in-default.ensures))
+    sym (fault_on (line_cause c.args.layout c.args.words.now) c.loop-i.i _ (omega arith) (sym c.in_default.ensures))
     ∙ c.loop-i.invariant
 
 pub returns : goal.returns

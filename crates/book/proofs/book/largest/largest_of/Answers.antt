@@ -4,8 +4,8 @@ use Rattle.book.specs.Books.{above}
 use Rattle.book.proofs.Loops.{greatest_start, above_more}
 use Rattle.book.proofs.book.largest.largest_of.Goals as goal
 
-pub returns-in-default : goal.returns-in-default
-returns-in-default g c = search (rules, nil_from_length)
+pub returns-in_default : goal.returns-in_default
+returns-in_default g c = search (rules, nil_from_length)
 
 pub loop-line-init : goal.loop-line-init
 loop-line-init g c = search (rules, greatest_start)

@@ -4,8 +4,8 @@ use Rattle.book.specs.Books.{place_from}
 use Rattle.book.proofs.Loops.{place_more}
 use Rattle.book.proofs.book.search.first_with.Goals as goal
 
-pub returns-then-has-key : goal.returns-then-has-key
-returns-then-has-key g c =
+pub returns-then-has_key : goal.returns-then-has_key
+returns-then-has_key g c =
     let m = g.L.Line in
     let more = place_more m.same m.keyed c.args.key _ _ _ c.loop-i-test.true c.index-lines-i.is in
     search rules

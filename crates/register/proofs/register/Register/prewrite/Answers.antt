@@ -24,9 +24,9 @@ returns-then-not-fit g c =
     c.of-prewrite-additions.ensures.row c.of-prewrite-additions.ensures.notes) ∙ (sym c.fit.ensures ∙ c.if-not-fit.true) in
     record {
       model =
-          sym (prewrite_full m t k _ _ c.in-ok-cell-here.field-0
-          (sym c.open_now.ensures ∙ c.in-ok-open-now.was) (sym c.cell_here.ensures ∙ c.in-ok-cell-here.was)
-          (sym c.unless_past.ensures ∙ c.in-ok-unless-past.was) c.args.value none full);
+          sym (prewrite_full m t k _ _ c.in_ok-cell-here.field-0
+          (sym c.open_now.ensures ∙ c.in_ok-open-now.was) (sym c.cell_here.ensures ∙ c.in_ok-cell-here.was)
+          (sym c.unless_past.ensures ∙ c.in_ok-unless-past.was) c.args.value none full);
       refused = same_register _ _ (record { store = refl; policy = refl; transactions = refl; rows = refl; reads = refl; writes = refl; notes = refl });
       keeps = search rules;
       store = refl;

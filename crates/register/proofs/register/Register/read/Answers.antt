@@ -21,9 +21,9 @@ returns-in-Some g c =
     record {
       model =
           ap (λ v. (m, Ok (v, line.seen))) (to_z-of_z w16 line.value fits)
-          ∙ sym (read_again m c.args.transaction c.args.key _ _ c.in-ok-cell.cell
-          (sym c.open_now.ensures ∙ c.in-ok-open-now.was) (sym c.cell_here.ensures ∙ c.in-ok-cell.was)
-          (sym c.unless_past.ensures ∙ c.in-ok-unless-past.was) _ (sym c.unwritten.ensures ∙ c.in-ok-unwritten.was)
+          ∙ sym (read_again m c.args.transaction c.args.key _ _ c.in_ok-cell.cell
+          (sym c.open_now.ensures ∙ c.in_ok-open-now.was) (sym c.cell_here.ensures ∙ c.in_ok-cell.was)
+          (sym c.unless_past.ensures ∙ c.in_ok-unless-past.was) _ (sym c.unwritten.ensures ∙ c.in_ok-unwritten.was)
           c.in-Some.line (sym c.in-Some.ensures));
       refused = tt;
       keeps = search rules;
@@ -36,15 +36,15 @@ returns-then-not-fit g c =
     let m = model g.S.Store.cells self in
     let t = c.args.transaction in
     let k = c.args.key in
-    let none : read_of m t k ≡ None = sym c.find.ensures ∙ none_then c.find.result c.in-default.not-Some in
+    let none : read_of m t k ≡ None = sym c.find.ensures ∙ none_then c.find.result c.in_default.not-Some in
     let full =
     sym (ap₂ (λ (rs : List Row) (ns : List Note). fits self.rows rs && (has_room m.reads m.rooms.reads 1 && fits self.notes ns))
     c.of-read-additions.ensures.row c.of-read-additions.ensures.notes) ∙ (sym c.fit.ensures ∙ c.if-not-fit.true) in
     record {
       model =
-          sym (read_full m t k _ _ c.in-ok-cell.cell
-          (sym c.open_now.ensures ∙ c.in-ok-open-now.was) (sym c.cell_here.ensures ∙ c.in-ok-cell.was)
-          (sym c.unless_past.ensures ∙ c.in-ok-unless-past.was) _ (sym c.unwritten.ensures ∙ c.in-ok-unwritten.was)
+          sym (read_full m t k _ _ c.in_ok-cell.cell
+          (sym c.open_now.ensures ∙ c.in_ok-open-now.was) (sym c.cell_here.ensures ∙ c.in_ok-cell.was)
+          (sym c.unless_past.ensures ∙ c.in_ok-unless-past.was) _ (sym c.unwritten.ensures ∙ c.in_ok-unwritten.was)
           none full);
       refused = same_register _ _ (record { store = refl; policy = refl; transactions = refl; rows = refl; reads = refl; writes = refl; notes = refl });
       keeps = search rules;

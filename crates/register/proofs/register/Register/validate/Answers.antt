@@ -45,7 +45,7 @@ returns-then-findings g c =
       model =
           ap (λ n. (n, Ok None)) (with_rows_is m _ _ _ lines c.move-row.ensures.stays.room)
           ∙ sym (validate_fails (g.P.Policy.chosen self.policy) m t at r _ _
-          (sym c.open_now.ensures ∙ c.in-ok-open-now.was) found (sym c.running.ensures ∙ c.in-ok-running.was)
+          (sym c.open_now.ensures ∙ c.in_ok-open-now.was) found (sym c.running.ensures ∙ c.in_ok-running.was)
           f.lower f.upper c.findings-findings.ensures.lower c.findings-findings.ensures.upper empty);
       refused = tt;
       keeps = search rules;
@@ -116,7 +116,7 @@ returns g c =
           ap (λ n. (n, Ok (Some (lower, upper)))) (with_rows_is m _ _ _ lines c.take-range.ensures.stays.room)
           ∙ (ap (λ (p : ℤ × ℤ). (passed m t at r p, Ok (Some p))) kept
           ∙ sym (validate_passes (g.P.Policy.chosen self.policy) m t at r _ _
-          (sym c.open_now.ensures ∙ c.in-ok-open-now.was) found (sym c.running.ensures ∙ c.in-ok-running.was)
+          (sym c.open_now.ensures ∙ c.in_ok-open-now.was) found (sym c.running.ensures ∙ c.in_ok-running.was)
           f.lower f.upper c.findings-findings.ensures.lower c.findings-findings.ensures.upper some range chosen));
       refused = tt;
       keeps = search rules;

@@ -7,27 +7,27 @@ use Rattle.register.specs.Validation.{other_party}
 use Rattle.register.proofs.Effects.{effect_without_row, effect_with_row}
 use Rattle.register.proofs.validation.effects.located_effect.Goals as goal
 
-pub returns-in-err-place : goal.returns-in-err-place
-returns-in-err-place c =
+pub returns-in_err-place : goal.returns-in_err-place
+returns-in_err-place c =
     let rows = held c.args.rows.now in
     let t = c.args.transaction in
     let g = c.args.ground in
     let n = c.args.note.now in
-    let searched = c.in-err-place.ensures.place in
+    let searched = c.in_err-place.ensures.place in
     let at : place_of rows (other_party n t) g ≡ None = cc in
     rw c.from-residual.ensures (effect_without_row rows t g n at)
 
-pub returns-in-err-row : goal.returns-in-err-row
-returns-in-err-row c =
+pub returns-in_err-row : goal.returns-in_err-row
+returns-in_err-row c =
     let rows = held c.args.rows.now in
     let t = c.args.transaction in
     let g = c.args.ground in
     let n = c.args.note.now in
-    let i = c.in-ok-place.place in
-    let searched = c.in-ok-place.ensures.place in
+    let i = c.in_ok-place.place in
+    let searched = c.in_ok-place.ensures.place in
     let at : place_of rows (other_party n t) g ≡ Some i = cc in
     let here : eqb (ground_of n.key) g ≡ true = grind (arith, nat_tests) in
-    rw c.from-residual-in-err-row.ensures (effect_with_row rows t g n i None here at (sym c.in-err-row.ensures))
+    rw c.from-residual-in_err-row.ensures (effect_with_row rows t g n i None here at (sym c.in_err-row.ensures))
 
 pub returns : goal.returns
 returns c =
@@ -35,10 +35,10 @@ returns c =
     let t = c.args.transaction in
     let g = c.args.ground in
     let n = c.args.note.now in
-    let i = c.in-ok-place.place in
-    let row = c.in-ok-row.row in
-    let searched = c.in-ok-place.ensures.place in
+    let i = c.in_ok-place.place in
+    let row = c.in_ok-row.row in
+    let searched = c.in_ok-place.ensures.place in
     let at : place_of rows (other_party n t) g ≡ Some i = cc in
     let here : eqb (ground_of n.key) g ≡ true = grind (arith, nat_tests) in
-    let effect = effect_with_row rows t g n i (Some row) here at (sym c.in-ok-row.ensures) in
-    (c.in-ok-place.ensures.within, at, effect ∙ sym c.effect.ensures)
+    let effect = effect_with_row rows t g n i (Some row) here at (sym c.in_ok-row.ensures) in
+    (c.in_ok-place.ensures.within, at, effect ∙ sym c.effect.ensures)

@@ -10,7 +10,7 @@ use Rattle.register.specs.Validation.{is_before, is_after, joins_among, pushed_b
 use Rattle.register.proofs.Gathering.{no_row}
 use Rattle.register.proofs.Pushing.{set_held, stays_on, push_more, push_all, nth_holds, pushed_bounded}
 use Rattle.register.proofs.validation.pushing.make_way.Goals as goal
-use Rattle.register.proofs.validation.pushing.make_way.Goals.{in-Some, in-default}
+use Rattle.register.proofs.validation.pushing.make_way.Goals.{in-Some, in_default}
 
 pub loop-i-preserved : goal.loop-i-preserved
 loop-i-preserved c =
@@ -41,7 +41,7 @@ loop-i-preserved c =
             subst (Stays c.args.rows.now) (sym w.rows-is) (stays_on _ _ _ c.loop-i.invariant.2 w.set.ensures.stays),
             ap length written ∙ (length-set rows i new ∙ c.loop-i.invariant.3),
           )
-      | in-default w ↦ absurd (w.in-default.not-Some (get_or rows i no_row) (c.get.ensures ∙ slice_get-get_or rows i no_row within))
+      | in_default w ↦ absurd (w.in_default.not-Some (get_or rows i no_row) (c.get.ensures ∙ slice_get-get_or rows i no_row within))
     ]
 
 pub returns : goal.returns

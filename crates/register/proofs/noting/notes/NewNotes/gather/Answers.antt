@@ -4,7 +4,7 @@ use Rattle.book.specs.Books.{held}
 use Rattle.register.specs.Room.{new_notes}
 use Rattle.register.proofs.Walks.{notes_for, notes_more}
 use Rattle.register.proofs.noting.notes.NewNotes.gather.Goals as goal
-use Rattle.register.proofs.noting.notes.NewNotes.gather.Goals.{in-Some, in-default}
+use Rattle.register.proofs.noting.notes.NewNotes.gather.Goals.{in-Some, in_default}
 
 pub loop-line-preserved : goal.loop-line-preserved
 loop-line-preserved g c =
@@ -12,7 +12,7 @@ loop-line-preserved g c =
     c.loop-line-test.true c.line-item.is c.key.ensures c.note_met.ensures in
     elim c.match-note-met.branch [
       | in-Some w ↦ let joined = append_assoc (new_notes c.loop-line.self) (w.in-Some.note ∷ []) in search rules
-      | in-default w ↦ search rules
+      | in_default w ↦ search rules
     ]
 
 pub returns : goal.returns
