@@ -2,7 +2,7 @@
 --   row_key, read_key, write_key   the key of a row, a read line, a write line
 --   same_row, same_access          whether two such keys are the same
 --   rank_row, rank_access          how they compare: by transaction, then by ground or key
-use Rattle.std.specs.Prelude.{Bool, ◌&&◌, ◌==◌}
+use Rattle.std.specs.Prelude.{ℕ, Bool, ◌&&◌, ◌==◌}
 use Rattle.std.specs.declared.cmp.Ordering.{Ordering}
 use Rattle.std.specs.Ordering.{ordering_then, nat_cmp}
 use Rattle.lines.specs.declared.access.AccessKey.{AccessKey}
@@ -11,9 +11,13 @@ use Rattle.lines.specs.declared.access.WriteLine.{WriteLine}
 use Rattle.lines.specs.declared.row.Row.{Row}
 use Rattle.lines.specs.declared.row.RowKey.{RowKey}
 
+-- The key of a transaction's row at a ground.
+abbrev pub row_key_at : (transaction ground : ℕ) → RowKey
+row_key_at t g = record { transaction = t; ground = g }
+
 -- A row goes by its transaction and ground.
 abbrev pub row_key : Row → RowKey
-row_key x = record { transaction = x.transaction; ground = x.ground }
+row_key x = row_key_at x.transaction x.ground
 
 -- The same transaction and ground.
 abbrev pub same_row : RowKey → RowKey → Bool

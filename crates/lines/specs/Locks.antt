@@ -22,7 +22,7 @@ abbrev pub holds_lock : Row → Bool
 holds_lock r = live r.state
 
 -- The first row of a transaction at a ground.
-abbrev pub row_of : List Row → ℕ → ℕ → Option Row
+abbrev pub row_of : List Row → (transaction ground : ℕ) → Option Row
 row_of rows t g = line_with same_row row_key (record { transaction = t; ground = g }) rows
 
 -- The lock of a row, if there is a row.

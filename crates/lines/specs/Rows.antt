@@ -13,7 +13,7 @@ use Rattle.lines.specs.declared.row.State.{State}
 use Rattle.lines.specs.declared.row.State.TheVariants.{Running, Validated, Committed, Aborted}
 
 -- Running, with every stamp from 0 to TOP.
-abbrev pub new_row : ℕ → ℕ → Row
+abbrev pub new_row : (transaction ground : ℕ) → Row
 new_row t g = record { transaction = t; ground = g; state = Running; lower = pos 0; upper = pos 268435455 }
 
 -- The row in another state, with its bounds.

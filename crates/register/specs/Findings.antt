@@ -42,7 +42,7 @@ FitsEffect JoinBefore = Unit {0}
 FitsEffect JoinAfter = Unit {0}
 
 -- The place of the first row of a transaction at a ground.
-abbrev pub place_of : List Row → ℕ → ℕ → Option ℕ
+abbrev pub place_of : List Row → (transaction ground : ℕ) → Option ℕ
 place_of rows t g = place same_row row_key (record { transaction = t; ground = g }) rows
 
 -- What follows from a note is added. Where the other party has no row nothing does, so that its place does not matter.

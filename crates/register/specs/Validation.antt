@@ -164,7 +164,7 @@ abbrev pub pushed : Model → ℕ → ℕ → ℤ × ℤ → Row → Row
 pushed m t g range r = pushed_among m.rows m.notes t g range r
 
 -- The rows with the transaction's own row here moved by an event.
-abbrev pub row_moved : ℕ → ℕ → Row → Event → List Row → List Row
+abbrev pub row_moved : (transaction ground : ℕ) → Row → Event → List Row → List Row
 row_moved t g r e rows = replaced same_row row_key (record { transaction = t; ground = g }) (moved r e).0 rows
 
 -- The register after a validation that failed: the row is Aborted and keeps its bounds.
