@@ -13,11 +13,11 @@ returns c =
     let same = to_z-of_z w16 x.value fits in
     let a = c.value_word.ensures in
     let b = c.stamp_word.ensures in
-    let d = c.stamp-word-2.ensures in
+    let d = c.stamp_word-2.ensures in
     let back = a.back ∙ ap Ok same in
     record {
-      words = ap (λ v. three ws p v c.stamp_word.result c.stamp-word-2.result) (a.value ∙ ap value_word same)
-          ∙ (ap (λ w. three ws p (value_word x.value) w c.stamp-word-2.result) b.value
+      words = ap (λ v. three ws p v c.stamp_word.result c.stamp_word-2.result) (a.value ∙ ap value_word same)
+          ∙ (ap (λ w. three ws p (value_word x.value) w c.stamp_word-2.result) b.value
           ∙ ap (three ws p (value_word x.value) _) d.value);
       cell = cell_written ws p _ _ _ x c.requires back b.back d.back;
       sound = cell_sound ws p _ _ _ x c.requires back b.back d.back;

@@ -4,4 +4,4 @@ use Rattle.store.proofs.memory.sparse.is_good.Goals as goal
 
 pub returns : goal.returns
 returns c =
-    made_means c.args.words.now c.is-none.result (ap is_some (sym c.sparse_fault.ensures) ∙ c.is-none.ensures)
+    made_means c.args.words.now c.is_none.result (ap is_some (sym c.sparse_fault.ensures) ∙ c.is_none.ensures)

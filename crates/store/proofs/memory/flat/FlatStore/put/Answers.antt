@@ -11,9 +11,9 @@ returns-then-has c =
     let ws = s.words.now in
     let k = c.args.key in
     let x = c.args.cell in
-    let is = c.put-cell.ensures.words in
-    let here = ap (λ vs. cell_at vs (3 * (k % 8192))) (sym is) ∙ c.put-cell.ensures.cell in
-    let sound = ap (λ vs. cell_cause vs (3 * (k % 8192))) (sym is) ∙ c.put-cell.ensures.sound in
+    let is = c.put_cell.ensures.words in
+    let here = ap (λ vs. cell_at vs (3 * (k % 8192))) (sym is) ∙ c.put_cell.ensures.cell in
+    let sound = ap (λ vs. cell_cause vs (3 * (k % 8192))) (sym is) ∙ c.put_cell.ensures.sound in
     let Puts : List ℕ → Type 0 = λ vs. Put (flat_cells s.good s.ground ws) (flat_cells s.good s.ground vs) k x (Ok tt) in
     let Sound : List ℕ → Type 0 = λ vs. flat_fault s.ground ws ≡ None → flat_fault s.ground vs ≡ None in
     record {

@@ -12,9 +12,9 @@ returns c =
     let k = c.args.key in
     let i = c.in-Some.i in
     let x = c.args.cell in
-    let is = c.put-cell.ensures.words in
-    let here = ap (λ vs. cell_at vs (4 * i + 1)) (sym is) ∙ c.put-cell.ensures.cell in
-    let sound = ap (λ vs. cell_cause vs (4 * i + 1)) (sym is) ∙ c.put-cell.ensures.sound in
+    let is = c.put_cell.ensures.words in
+    let here = ap (λ vs. cell_at vs (4 * i + 1)) (sym is) ∙ c.put_cell.ensures.cell in
+    let sound = ap (λ vs. cell_cause vs (4 * i + 1)) (sym is) ∙ c.put_cell.ensures.sound in
     let Puts : List ℕ → Type 0 = λ vs. Put (found_cells good ws) (found_cells good vs) k x (Ok tt) in
     let Sound : List ℕ → Type 0 = λ vs. sparse_fault ws ≡ None → sparse_fault vs ≡ None in
     record {
