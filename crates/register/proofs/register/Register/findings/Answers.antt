@@ -6,8 +6,8 @@ use Rattle.register.proofs.Raising.{raised_floors}
 use Rattle.register.proofs.RowBook.{few_held, rows_sound}
 use Rattle.register.proofs.register.Register.findings.Goals as goal
 
-pub from-notes-requires : goal.from-notes-requires
-from-notes-requires g c =
+pub from_notes-requires : goal.from_notes-requires
+from_notes-requires g c =
     let self = c.args.self.now in
     let sound = rows_sound (held self.rows) self.sound in
     record { bounded = sound.bounded; distinct = sound.single; few = few_held self.rows 256 self.limits.0 }
@@ -20,5 +20,5 @@ returns g c =
     record {
       lower = let joins = raised_floors m t at c.args.row.now.lower in search rules;
       upper = search rules;
-      marked = subst (λ ns. Marked m.rows ns t at c.from-notes.result) c.lines-3.ensures c.from-notes.ensures.marked;
+      marked = subst (λ ns. Marked m.rows ns t at c.from_notes.result) c.lines-3.ensures c.from_notes.ensures.marked;
     }

@@ -22,8 +22,8 @@ returns-in-Some g c =
       model =
           ap (λ v. (m, Ok (v, line.seen))) (to_z-of_z w16 line.value fits)
           ∙ sym (read_again m c.args.transaction c.args.key _ _ c.in_ok-cell.cell
-          (sym c.open_now.ensures ∙ c.in_ok-open-now.was) (sym c.cell_here.ensures ∙ c.in_ok-cell.was)
-          (sym c.unless_past.ensures ∙ c.in_ok-unless-past.was) _ (sym c.unwritten.ensures ∙ c.in_ok-unwritten.was)
+          (sym c.open_now.ensures ∙ c.in_ok-open_now.was) (sym c.cell_here.ensures ∙ c.in_ok-cell.was)
+          (sym c.unless_past.ensures ∙ c.in_ok-unless_past.was) _ (sym c.unwritten.ensures ∙ c.in_ok-unwritten.was)
           c.in-Some.line (sym c.in-Some.ensures));
       refused = tt;
       keeps = search rules;
@@ -39,12 +39,12 @@ returns-then-not-fit g c =
     let none : read_of m t k ≡ None = sym c.find.ensures ∙ none_then c.find.result c.in_default.not-Some in
     let full =
     sym (ap₂ (λ (rs : List Row) (ns : List Note). fits self.rows rs && (has_room m.reads m.rooms.reads 1 && fits self.notes ns))
-    c.of-read-additions.ensures.row c.of-read-additions.ensures.notes) ∙ (sym c.fit.ensures ∙ c.if-not-fit.true) in
+    c.of_read-additions.ensures.row c.of_read-additions.ensures.notes) ∙ (sym c.fit.ensures ∙ c.if-not-fit.true) in
     record {
       model =
           sym (read_full m t k _ _ c.in_ok-cell.cell
-          (sym c.open_now.ensures ∙ c.in_ok-open-now.was) (sym c.cell_here.ensures ∙ c.in_ok-cell.was)
-          (sym c.unless_past.ensures ∙ c.in_ok-unless-past.was) _ (sym c.unwritten.ensures ∙ c.in_ok-unwritten.was)
+          (sym c.open_now.ensures ∙ c.in_ok-open_now.was) (sym c.cell_here.ensures ∙ c.in_ok-cell.was)
+          (sym c.unless_past.ensures ∙ c.in_ok-unless_past.was) _ (sym c.unwritten.ensures ∙ c.in_ok-unwritten.was)
           none full);
       refused = same_register _ _ (record { store = refl; policy = refl; transactions = refl; rows = refl; reads = refl; writes = refl; notes = refl });
       keeps = search rules;
@@ -54,11 +54,11 @@ returns-then-not-fit g c =
 pub invariant-of-self-2 : goal.invariant-of-self-2
 invariant-of-self-2 g c =
     let self = c.args.self.now in
-    let rows = c.add-with.ensures.rows in
-    let lines = rows.lines ∙ ap (λ rs. held self.rows ++ rs) c.of-read-additions.ensures.row in
+    let rows = c.add_with.ensures.rows in
+    let lines = rows.lines ∙ ap (λ rs. held self.rows ++ rs) c.of_read-additions.ensures.row in
     let sound = subst SoundRows (sym lines)
     (sound_needed (held self.rows) c.args.transaction c.args.key (rows_sound (held self.rows) self.sound)) in
-    let reads = c.add-with.ensures.lines.stays.room in (
+    let reads = c.add_with.ensures.lines.stays.room in (
       ∣ sound ∣₁,
       ((subst (λ n. n ≤ 256) (sym rows.stays.room) self.limits.0, subst (λ n. n ≤ 512) (sym reads) self.limits.1, self.limits.2), tt),
     )

@@ -15,16 +15,16 @@ use Rattle.register.proofs.register.Register.validate.Goals as goal
 not-below : (l u : ℤ) → lt_z u l ≡ false → l ≤ℤ u
 not-below l u e = grind (arith, ints)
 
-pub move-row-requires : goal.move-row-requires
-move-row-requires g c =
+pub move_row-requires : goal.move_row-requires
+move_row-requires g c =
     let self = c.args.self.now in
     record { bounded = c.in-Some.ensures.bounded; fits = tt; sound = rows_sound (held self.rows) self.sound }
 
 pub invariant-of-self : goal.invariant-of-self
 invariant-of-self g c =
     let self = c.args.self.now in
-    let room = c.move-row.ensures.stays.room in
-    (∣ c.move-row.ensures.sound ∣₁, ((subst (λ n. n ≤ 256) (sym room) self.limits.0, self.limits.1, self.limits.2), tt))
+    let room = c.move_row.ensures.stays.room in
+    (∣ c.move_row.ensures.sound ∣₁, ((subst (λ n. n ≤ 256) (sym room) self.limits.0, self.limits.1, self.limits.2), tt))
 
 pub returns-then-findings : goal.returns-then-findings
 returns-then-findings g c =
@@ -40,20 +40,20 @@ returns-then-findings g c =
     let high : SFits w32 f.upper = search rules in
     let empty : lt_z f.upper f.lower ≡ true =
     ap₂ lt_z (sym (to_z-of_z w32 f.upper high)) (sym (to_z-of_z w32 f.lower low)) ∙ c.if-findings.true in
-    let lines = c.move-row.ensures.lines ∙ ap₂ (λ (a b : ℕ). row_moved a b r Fail m.rows) owner.0 owner.1 in
+    let lines = c.move_row.ensures.lines ∙ ap₂ (λ (a b : ℕ). row_moved a b r Fail m.rows) owner.0 owner.1 in
     record {
       model =
-          ap (λ n. (n, Ok None)) (with_rows_is m _ _ _ lines c.move-row.ensures.stays.room)
+          ap (λ n. (n, Ok None)) (with_rows_is m _ _ _ lines c.move_row.ensures.stays.room)
           ∙ sym (validate_fails (g.P.Policy.chosen self.policy) m t at r _ _
-          (sym c.open_now.ensures ∙ c.in_ok-open-now.was) found (sym c.running.ensures ∙ c.in_ok-running.was)
+          (sym c.open_now.ensures ∙ c.in_ok-open_now.was) found (sym c.running.ensures ∙ c.in_ok-running.was)
           f.lower f.upper c.findings-findings.ensures.lower c.findings-findings.ensures.upper empty);
       refused = tt;
       keeps = search rules;
       rest = search rules;
     }
 
-pub take-range-requires : goal.take-range-requires
-take-range-requires g c =
+pub take_range-requires : goal.take_range-requires
+take_range-requires g c =
     let self = c.args.self.now in
     let m = model g.S.Store.cells self in
     let t = c.args.transaction in
@@ -85,8 +85,8 @@ take-range-requires g c =
 pub invariant-of-self-2 : goal.invariant-of-self-2
 invariant-of-self-2 g c =
     let self = c.args.self.now in
-    let room = c.take-range.ensures.stays.room in
-    (∣ c.take-range.ensures.sound ∣₁, ((subst (λ n. n ≤ 256) (sym room) self.limits.0, self.limits.1, self.limits.2), tt))
+    let room = c.take_range.ensures.stays.room in
+    (∣ c.take_range.ensures.sound ∣₁, ((subst (λ n. n ≤ 256) (sym room) self.limits.0, self.limits.1, self.limits.2), tt))
 
 pub returns : goal.returns
 returns g c =
@@ -109,14 +109,14 @@ returns g c =
     let lower : ℤ = to_z w32 (of_z w32 range.0) in
     let upper : ℤ = to_z w32 (of_z w32 range.1) in
     let kept : ◌≡◌ {A = ℤ × ℤ} (lower, upper) range = ap₂ (λ (x y : ℤ). (x, y)) (to_z-of_z w32 range.0 from) (to_z-of_z w32 range.1 to) in
-    let lines = c.take-range.ensures.lines m.notes t at c.findings-findings.ensures.marked
+    let lines = c.take_range.ensures.lines m.notes t at c.findings-findings.ensures.marked
     ∙ ap₂ (λ (a b : ℕ). row_moved a b r (Pass lower upper) (map (pushed m t at (lower, upper)) m.rows)) owner.0 owner.1 in
     record {
       model =
-          ap (λ n. (n, Ok (Some (lower, upper)))) (with_rows_is m _ _ _ lines c.take-range.ensures.stays.room)
+          ap (λ n. (n, Ok (Some (lower, upper)))) (with_rows_is m _ _ _ lines c.take_range.ensures.stays.room)
           ∙ (ap (λ (p : ℤ × ℤ). (passed m t at r p, Ok (Some p))) kept
           ∙ sym (validate_passes (g.P.Policy.chosen self.policy) m t at r _ _
-          (sym c.open_now.ensures ∙ c.in_ok-open-now.was) found (sym c.running.ensures ∙ c.in_ok-running.was)
+          (sym c.open_now.ensures ∙ c.in_ok-open_now.was) found (sym c.running.ensures ∙ c.in_ok-running.was)
           f.lower f.upper c.findings-findings.ensures.lower c.findings-findings.ensures.upper some range chosen));
       refused = tt;
       keeps = search rules;

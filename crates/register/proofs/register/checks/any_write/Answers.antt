@@ -4,13 +4,13 @@ use Rattle.register.specs.Checks.{any, is_write_of}
 use Rattle.register.proofs.Deciding.{any_yes, any_no}
 use Rattle.register.proofs.register.checks.any_write.Goals as goal
 
-pub returns-then-is-write-of : goal.returns-then-is-write-of
-returns-then-is-write-of c =
-    sym (any_yes (is_write_of c.args.transaction) _ _ _ c.loop-line-test.true (sym c.if-is-write-of.ensures)) ∙ c.loop-line.invariant
+pub returns-then-is_write_of : goal.returns-then-is_write_of
+returns-then-is_write_of c =
+    sym (any_yes (is_write_of c.args.transaction) _ _ _ c.loop-line-test.true (sym c.if-is_write_of.ensures)) ∙ c.loop-line.invariant
 
 pub loop-line-preserved : goal.loop-line-preserved
 loop-line-preserved c =
-    sym (any_no (is_write_of c.args.transaction) _ _ _ c.loop-line-test.true (sym c.if-is-write-of.ensures)) ∙ c.loop-line.invariant
+    sym (any_no (is_write_of c.args.transaction) _ _ _ c.loop-line-test.true (sym c.if-is_write_of.ensures)) ∙ c.loop-line.invariant
 
 pub returns : goal.returns
 returns c = sym (at_drop_all (any (is_write_of c.args.transaction)) _ _ c.loop-line-test.false) ∙ c.loop-line.invariant

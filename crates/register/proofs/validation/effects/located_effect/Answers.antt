@@ -15,7 +15,7 @@ returns-in_err-place c =
     let n = c.args.note.now in
     let searched = c.in_err-place.ensures.place in
     let at : place_of rows (other_party n t) g ≡ None = cc in
-    rw c.from-residual.ensures (effect_without_row rows t g n at)
+    rw c.from_residual.ensures (effect_without_row rows t g n at)
 
 pub returns-in_err-row : goal.returns-in_err-row
 returns-in_err-row c =
@@ -27,7 +27,7 @@ returns-in_err-row c =
     let searched = c.in_ok-place.ensures.place in
     let at : place_of rows (other_party n t) g ≡ Some i = cc in
     let here : eqb (ground_of n.key) g ≡ true = grind (arith, nat_tests) in
-    rw c.from-residual-in_err-row.ensures (effect_with_row rows t g n i None here at (sym c.in_err-row.ensures))
+    rw c.from_residual-in_err-row.ensures (effect_with_row rows t g n i None here at (sym c.in_err-row.ensures))
 
 pub returns : goal.returns
 returns c =

@@ -7,7 +7,7 @@ use Rattle.register.proofs.validation.floors.above_reads.Goals as goal
 pub loop-line-preserved : goal.loop-line-preserved
 loop-line-preserved c =
     let floor = read_floor c.args.transaction c.args.ground in
-    let more = raised_more floor _ _ _ _ _ c.loop-line-test.true c.line-item.is c.above-read-raised.ensures in
+    let more = raised_more floor _ _ _ _ _ c.loop-line-test.true c.line-item.is c.above_read-raised.ensures in
     grind (arith, to_z-of_z)
 
 pub returns : goal.returns

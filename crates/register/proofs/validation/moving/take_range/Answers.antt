@@ -10,8 +10,8 @@ use Rattle.register.proofs.RowBook.{single_by_keys}
 use Rattle.register.proofs.validation.moving.take_range.Goals as goal
 
 -- Rows that made way keep their keys.
-pub move-row-requires : goal.move-row-requires
-move-row-requires c =
+pub move_row-requires : goal.move_row-requires
+move_row-requires c =
     let old = held c.args.rows.now in
     let m = c.requires.marked in
     let low = to_z-of_z w32 c.args.lower c.ranges.lower in
@@ -19,13 +19,13 @@ move-row-requires c =
     let lower : ℤ = to_z w32 (of_z w32 c.args.lower) in
     let upper : ℤ = to_z w32 (of_z w32 c.args.upper) in
     let range : ℤ × ℤ = (lower, upper) in
-    let lines = c.make-way.ensures.lines m.0 m.1.0 m.1.1.0 m.1.1.1 in
+    let lines = c.make_way.ensures.lines m.0 m.1.0 m.1.1.0 m.1.1.1 in
     record {
       bounded = c.requires.bounded;
       fits = subst (λ x. Limits x upper) (sym low) (subst (λ y. Limits c.args.lower y) (sym high) c.requires.limits);
       sound = record {
-        bounded = c.make-way.ensures.bounded;
-        single = single_by_keys old (held c.make-way.new.rows)
+        bounded = c.make_way.ensures.bounded;
+        single = single_by_keys old (held c.make_way.new.rows)
             (sym (ap (map row_key) lines
             ∙ pushed_keys (joins_among is_before old m.0 m.1.0 m.1.1.0) (joins_among is_after old m.0 m.1.0 m.1.1.0) range old))
             c.requires.sound.single;
@@ -43,9 +43,9 @@ returns c =
     let range : ◌≡◌ {A = ℤ × ℤ} (lower, upper) (c.args.lower, c.args.upper) = cc in
     record {
       lines = λ notes t g m.
-          c.move-row.ensures.lines
-          ∙ (ap (row_moved row.transaction row.ground row (Pass lower upper)) (c.make-way.ensures.lines notes t g m)
+          c.move_row.ensures.lines
+          ∙ (ap (row_moved row.transaction row.ground row (Pass lower upper)) (c.make_way.ensures.lines notes t g m)
           ∙ ap (λ (p : ℤ × ℤ). row_moved row.transaction row.ground row (Pass p.0 p.1) (map (pushed_among old notes t g p) old)) range);
-      sound = c.move-row.ensures.sound;
-      stays = stays_on _ _ _ c.make-way.ensures.stays c.move-row.ensures.stays;
+      sound = c.move_row.ensures.sound;
+      stays = stays_on _ _ _ c.make_way.ensures.stays c.move_row.ensures.stays;
     }

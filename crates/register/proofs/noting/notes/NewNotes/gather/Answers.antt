@@ -10,7 +10,7 @@ pub loop-line-preserved : goal.loop-line-preserved
 loop-line-preserved g c =
     let more = notes_more c.args.meeting c.args.access (held c.args.rows.now) g.L.Line.keyed _ _ _ _ _
     c.loop-line-test.true c.line-item.is c.key.ensures c.note_met.ensures in
-    elim c.match-note-met.branch [
+    elim c.match-note_met.branch [
       | in-Some w ↦ let joined = append_assoc (new_notes c.loop-line.self) (w.in-Some.note ∷ []) in search rules
       | in_default w ↦ search rules
     ]

@@ -18,7 +18,7 @@ pub loop-note-preserved : goal.loop-note-preserved
 loop-note-preserved c =
     let add = noted (held c.args.rows.now) c.args.transaction c.args.ground in
     let note = get_or c.args.notes.now c.loop-note.note-index no_note in
-    c.add-note.ensures
+    c.add_note.ensures
     ∙ (ap (λ (f : Findings). add f note) c.loop-note.invariant
     ∙ sym (fold_more add _ c.args.notes.now c.loop-note.note-index no_note c.loop-note-test.true))
 

@@ -23,11 +23,11 @@ loop-i-preserved c =
     let high : SFits w32 row.upper = search rules in (
       omega arith,
       omega arith,
-      λ notes t g m. c.add-if.ensures.bounds
+      λ notes t g m. c.add_if.ensures.bounds
           ∙ (ap (λ z. gathered c.loop-i.befores ++ cond (get_or marks.before i false) (z ∷ []) []) (to_z-of_z w32 row.lower low)
           ∙ gather_more (joins_among is_before rows notes t g) rows (λ r. r.lower) marks.before _ i no_row m.before
           c.loop-i-test.true (c.loop-i.invariant.2 notes t g m)),
-      λ notes t g m. c.add-if-in-loop-i.ensures.bounds
+      λ notes t g m. c.add_if-in-loop-i.ensures.bounds
           ∙ (ap (λ z. gathered c.loop-i.afters ++ cond (get_or marks.after i false) (z ∷ []) []) (to_z-of_z w32 row.upper high)
           ∙ gather_more (joins_among is_after rows notes t g) rows (λ r. r.upper) marks.after _ i no_row m.after
           c.loop-i-test.true (c.loop-i.invariant.3 notes t g m)),
