@@ -3,7 +3,7 @@ use Rattle.std.proofs.Common.{◌≡◌, ℕ, false, cond, List, [], ◌∷◌, 
 use Rattle.std.proofs.lemmas.Bool.{true≢false}
 use Rattle.std.specs.Cmp.{IsTotalOrder}
 use Rattle.std.specs.Ordering.{is_lt, ordering_reverse}
-use Rattle.std.specs.List.{AllByRecursion as All}
+use Rattle.std.specs.List.{AllByRecursion}
 use Rattle.book.specs.Books.{larger, above, greatest, NoneAbove}
 
 module _ {K : Type 0} (o : K → K → Ordering) (total : IsTotalOrder o) where
@@ -60,7 +60,7 @@ module _ {K : Type 0} (o : K → K → Ordering) (total : IsTotalOrder o) where
   above_first k [] = itself k
   above_first k (j ∷ js) = through k (larger o k j) (above o (larger o k j) js) (above_first (larger o k j) js) (larger_first k j)
 
-  above_rest : (k : K) (js : List K) → All (Reaches (above o k js)) js
+  above_rest : (k : K) (js : List K) → AllByRecursion (Reaches (above o k js)) js
   above_rest k [] = tt
   above_rest k (j ∷ js) =
       (through j (larger o k j) (above o (larger o k j) js) (above_first (larger o k j) js) (larger_second k j), above_rest (larger o k j) js)

@@ -12,7 +12,7 @@
 use Rattle.std.specs.Prelude.{◌≡◌, ℕ, ◌+◌, ◌<◌, ◌≤◌, min, Bool, true, false, cond, List, [], ◌∷◌, ◌++◌, length, take, Some, None, Ok, Err, Option, Result, slice_set}
 use Rattle.std.specs.declared.cmp.Ordering.{Ordering}
 use Rattle.std.specs.Ordering.{is_lt}
-use Rattle.std.specs.List.{AllByRecursion as All}
+use Rattle.std.specs.List.{AllByRecursion}
 pub use Rattle.std.specs.List.{slice_get as nth}
 use Rattle.wire.specs.declared.refusal.Refusal.{Refusal}
 use Rattle.wire.specs.declared.refusal.Refusal.TheVariants.{NoRoom}
@@ -78,4 +78,4 @@ greatest o (k ∷ ks) = Some (above o k ks)
 -- None of some keys is above the one found.
 abbrev pub NoneAbove : {K : Type 0} → (K → K → Ordering) → Option K → List K → Type 0
 NoneAbove o None ks = Unit {0}
-NoneAbove o (Some k) ks = All (λ j. is_lt (o k j) ≡ false) ks
+NoneAbove o (Some k) ks = AllByRecursion (λ j. is_lt (o k j) ≡ false) ks

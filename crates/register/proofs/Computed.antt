@@ -1,15 +1,15 @@
 -- The worked cases are closed, so the model computes them.
 use Rattle.std.proofs.Common.{refl}
-use Rattle.std.specs.List.{AllByRecursion as All}
+use Rattle.std.specs.List.{AllByRecursion}
 use Rattle.register.specs.AllCases.{CasesHold}
 use Rattle.register.specs.Cases.{Holds}
 use Rattle.register.specs.Days.{days}
 use Rattle.register.specs.Worked.{worked}
 
-worked_hold : All Holds worked
+worked_hold : AllByRecursion Holds worked
 worked_hold = (refl, (refl, (refl, (refl, (refl, (refl, (refl, (refl, (refl, (refl, tt))))))))))
 
-days_hold : All Holds days
+days_hold : AllByRecursion Holds days
 days_hold = (refl, (refl, (refl, (refl, (refl, (refl, (refl, (refl, (refl, (refl, (refl, (refl, (refl, (refl, (refl, tt)))))))))))))))
 
 pub cases_hold : CasesHold

@@ -3,7 +3,7 @@
 --   effect_with_row       what the note says of the row at the place found
 --   effect_fits           its bound is within the limits of rows
 use Rattle.std.proofs.Common.{◌≡◌, ℕ, Bool, true, false, cond, eqb, List, [], ◌∷◌, Some, None, Option, sym, refl, ap, ◌∙◌}
-use Rattle.std.specs.List.{AllByRecursion as All}
+use Rattle.std.specs.List.{AllByRecursion}
 use Rattle.book.proofs.Books.{line_at, line_at_place}
 use Rattle.book.specs.Books.{nth, line_with}
 use Rattle.wire.specs.Keys.{ground_of}
@@ -47,7 +47,7 @@ abbrev HoldsIfFound : {X : Type 0} → (X → Type 0) → Option X → Type 0
 HoldsIfFound P None = Unit {0}
 HoldsIfFound P (Some x) = P x
 
-found_holds : {X K : Type 0} (P : X → Type 0) (same : K → K → Bool) (f : X → K) (k : K) (xs : List X) → All P xs
+found_holds : {X K : Type 0} (P : X → Type 0) (same : K → K → Bool) (f : X → K) (k : K) (xs : List X) → AllByRecursion P xs
     → HoldsIfFound P (line_with same f k xs)
 found_holds P same f k [] h = tt
 found_holds P same f k (x ∷ xs) h = go (same (f x) k) (found_holds P same f k xs h.1)
@@ -76,7 +76,7 @@ fits_by Neither Committed r b = tt
 fits_by Neither Aborted r b = tt
 
 -- What follows from a note among rows within their limits is within them.
-pub effect_fits : (rows : List Row) (t g : ℕ) (n : Note) → All Bounded rows → FitsEffect (effect_among rows t g n)
+pub effect_fits : (rows : List Row) (t g : ℕ) (n : Note) → AllByRecursion Bounded rows → FitsEffect (effect_among rows t g n)
 effect_fits rows t g n h =
     go (eqb (ground_of n.key) g) (row_of rows (other_party n t) g) (found_holds Bounded same_row row_key _ rows h)
   where

@@ -12,7 +12,7 @@ use Rattle.std.proofs.ByRecursion.{All-get_or}
 use Rattle.std.proofs.lemmas.List.{get_or_at, length-map, length-take-le, drop_more, take_all, drop_all}
 use Rattle.std.proofs.lemmas.Option.{slice_get-get_or}
 use Rattle.std.proofs.lemmas.Int.{ints, clamps}
-use Rattle.std.specs.List.{AllByRecursion as All}
+use Rattle.std.specs.List.{AllByRecursion}
 use Rattle.book.specs.Books.{held, nth, Replaced, Stays}
 use Rattle.book.specs.declared.book.Book.{Book}
 use Rattle.lines.specs.LineKeys.{row_key}
@@ -64,7 +64,7 @@ pushed_keys p q range [] = refl
 pushed_keys p q range (x ∷ xs) = ap (λ ks. row_key x ∷ ks) (pushed_keys p q range xs)
 
 -- What holds of all lines holds of the one at a place.
-pub nth_holds : {X : Type 0} (P : X → Type 0) (xs : List X) (i : ℕ) (x : X) → nth xs i ≡ Some x → i < length xs → All P xs → P x
+pub nth_holds : {X : Type 0} (P : X → Type 0) (xs : List X) (i : ℕ) (x : X) → nth xs i ≡ Some x → i < length xs → AllByRecursion P xs → P x
 nth_holds P xs i x e l h =
     let found : Some x ≡ Some (get_or xs i x) = sym e ∙ slice_get-get_or xs i x l in
     let read : x ≡ get_or xs i x = cc in

@@ -15,7 +15,7 @@ use Rattle.std.proofs.lemmas.Map.Keys.{IsDistinct-prop}
 use Rattle.std.proofs.lemmas.List.{length-take, map_push}
 use Rattle.std.proofs.lemmas.Int.{ints}
 use Rattle.std.proofs.lemmas.Bool.{and_parts, eqb-true}
-use Rattle.std.specs.List.{IsDistinct, AllByRecursion as All}
+use Rattle.std.specs.List.{IsDistinct, AllByRecursion}
 use Rattle.book.specs.Books.{memory, room, held, line_with}
 use Rattle.book.specs.declared.book.Book.{Book}
 use Rattle.lines.specs.LineKeys.{row_key, same_row}
@@ -36,7 +36,7 @@ limits_prop r p q i = record {
 }
 
 -- That all bounds are has one proof.
-bounded_prop : (rs : List Row) → IsProp (All Bounded rs)
+bounded_prop : (rs : List Row) → IsProp (AllByRecursion Bounded rs)
 bounded_prop [] = λ p q. refl
 bounded_prop (r ∷ rs) = ×_prop (limits_prop r) (bounded_prop rs)
 
@@ -50,7 +50,7 @@ rows_sound rs h = record {
 pub few_held : {L : Type 0} (b : Book L) (n : ℕ) → room b ≤ n → length (held b) ≤ n
 few_held b n h = let k = length-take (min b.count (room b)) (memory b) in omega arith
 
-pub bounded_row : (rs : List Row) (t g : ℕ) → All Bounded rs → IfSome (row_of rs t g) Bounded
+pub bounded_row : (rs : List Row) (t g : ℕ) → AllByRecursion Bounded rs → IfSome (row_of rs t g) Bounded
 bounded_row [] t g h = tt
 bounded_row (r ∷ rs) t g h = go (same_row (row_key r) (record { transaction = t; ground = g })) (bounded_row rs t g h.1)
   where
@@ -71,7 +71,7 @@ distinct_push k (r ∷ rs) e d = go (same_row (row_key r) k) refl e (distinct_pu
   where
     go : (b : Bool) → same_row (row_key r) k ≡ b → cond b (Some r) (line_with same_row row_key k rs) ≡ None
         → (line_with same_row row_key k rs ≡ None → IsDistinct same_row (map row_key rs) → IsDistinct same_row (map row_key rs ++ k ∷ []))
-        → All (λ j. same_row (row_key r) j ≡ false) (map row_key rs ++ k ∷ []) × IsDistinct same_row (map row_key rs ++ k ∷ [])
+        → AllByRecursion (λ j. same_row (row_key r) j ≡ false) (map row_key rs ++ k ∷ []) × IsDistinct same_row (map row_key rs ++ k ∷ [])
     go true s h later = let z : ◌≡◌ {A = ℕ} 0 1 = cc in absurd (omega arith)
     go false s h later = (All-push _ (map row_key rs) k d.0 s, later h d.1)
 
@@ -115,11 +115,11 @@ module _ (k : RowKey) (x : Row) (own : row_key x ≡ k) where
       go true s later = ap (λ j. j ∷ map row_key rs) (same_row_equal (row_key r) k s ∙ sym own)
       go false s later = ap (λ js. row_key r ∷ js) later
 
-  bounded_replaced : (rs : List Row) → Bounded x → All Bounded rs → All Bounded (replaced same_row row_key k x rs)
+  bounded_replaced : (rs : List Row) → Bounded x → AllByRecursion Bounded rs → AllByRecursion Bounded (replaced same_row row_key k x rs)
   bounded_replaced [] h hs = tt
   bounded_replaced (r ∷ rs) h hs = go (same_row (row_key r) k) (bounded_replaced rs h hs.1)
     where
-      go : (b : Bool) → All Bounded (replaced same_row row_key k x rs) → All Bounded (cond b (x ∷ rs) (r ∷ replaced same_row row_key k x rs))
+      go : (b : Bool) → AllByRecursion Bounded (replaced same_row row_key k x rs) → AllByRecursion Bounded (cond b (x ∷ rs) (r ∷ replaced same_row row_key k x rs))
       go true later = (h, hs.1)
       go false later = (hs.0, later)
 
@@ -134,7 +134,7 @@ module _ (f : Row → Row) (keeps : (r : Row) → row_key (f r) ≡ row_key r) (
   keys_mapped [] = refl
   keys_mapped (r ∷ rs) = let same = keeps r in let later = keys_mapped rs in cc
 
-  bounded_mapped : (rs : List Row) → All Bounded rs → All Bounded (map f rs)
+  bounded_mapped : (rs : List Row) → AllByRecursion Bounded rs → AllByRecursion Bounded (map f rs)
   bounded_mapped [] hs = tt
   bounded_mapped (r ∷ rs) hs = (bounds r hs.0, bounded_mapped rs hs.1)
 

@@ -1,7 +1,7 @@
 -- All worked cases hold.
 --   CasesHold   the worked cases, the longer days, and the two extreme values
 use Rattle.std.specs.Prelude.{◌≡◌, pos, negsuc, Ok}
-use Rattle.std.specs.List.{AllByRecursion as All}
+use Rattle.std.specs.List.{AllByRecursion}
 use Rattle.wire.specs.Words.{value_in, value_word}
 use Rattle.register.specs.Cases.{Holds}
 use Rattle.register.specs.Days.{days}
@@ -16,6 +16,6 @@ pub record Extremes : Type 0 where
 
 -- Every case of both lists, and the two extreme values.
 pub record CasesHold : Type 0 where
-  pub worked : All Holds worked
-  pub days : All Holds days
+  pub worked : AllByRecursion Holds worked
+  pub days : AllByRecursion Holds days
   pub values : Extremes

@@ -3,7 +3,7 @@ use Rattle.std.proofs.Common.{◌≡◌, ℕ, Bool, true, false, cond, ◌&&◌,
 use Rattle.std.proofs.ByRecursion.{All-append, All-weaker}
 use Rattle.std.proofs.lemmas.Bool.{eqb-true}
 use Rattle.std.specs.Option.{option_map}
-use Rattle.std.specs.List.{AllByRecursion as All}
+use Rattle.std.specs.List.{AllByRecursion}
 use Rattle.register.specs.Calls.{step, value_reply}
 use Rattle.register.specs.Model.{Model, Chooses}
 use Rattle.register.specs.declared.call.Call.{Call}
@@ -29,19 +29,19 @@ seen_kept h t k u j r x e = ap (λ o. cond (eqb t u && eqb k j) (seen_or o r) o)
 
 -- A read whose value is what was seen.
 read_alike : (h : History) (t k : ℕ) (r : Reply) → AlikeReads h
-    → All (λ v. Saw ((call.Read t k, r) ∷ h) t (k, v)) (value_in r) → AlikeReads ((call.Read t k, r) ∷ h)
+    → AllByRecursion (λ v. Saw ((call.Read t k, r) ∷ h) t (k, v)) (value_in r) → AlikeReads ((call.Read t k, r) ∷ h)
 read_alike h t k r old now u =
     All-append (Saw ((call.Read t k, r) ∷ h) u) (cond (eqb t u) (map (λ v. (k, v)) (value_in r)) []) (reads_of h u)
     (own (eqb t u) refl)
     (All-weaker (Saw h u) (Saw ((call.Read t k, r) ∷ h) u) (λ p q. (q.0, seen_kept h t k u p.0 r (p.1, q.0) q.1)) (reads_of h u) (old u))
   where
-    each : (vs : List ℤ) → All (λ v. Saw ((call.Read t k, r) ∷ h) t (k, v)) vs → All (Saw ((call.Read t k, r) ∷ h) t) (map (λ v. (k, v)) vs)
+    each : (vs : List ℤ) → AllByRecursion (λ v. Saw ((call.Read t k, r) ∷ h) t (k, v)) vs → AllByRecursion (Saw ((call.Read t k, r) ∷ h) t) (map (λ v. (k, v)) vs)
     each [] a = tt
     each (v ∷ vs) a = (a.0, each vs a.1)
 
-    own : (b : Bool) → eqb t u ≡ b → All (Saw ((call.Read t k, r) ∷ h) u) (cond b (map (λ v. (k, v)) (value_in r)) [])
+    own : (b : Bool) → eqb t u ≡ b → AllByRecursion (Saw ((call.Read t k, r) ∷ h) u) (cond b (map (λ v. (k, v)) (value_in r)) [])
     own true e =
-        subst (λ a. All (Saw ((call.Read t k, r) ∷ h) a) (map (λ v. (k, v)) (value_in r)))
+        subst (λ a. AllByRecursion (Saw ((call.Read t k, r) ∷ h) a) (map (λ v. (k, v)) (value_in r)))
         (eqb-true t u e) (each (value_in r) now)
     own false e = tt
 

@@ -6,7 +6,7 @@ use Rattle.std.proofs.ByRecursion.{All-weaker}
 use Rattle.std.proofs.lemmas.Int.{ints, clamps}
 use Rattle.std.proofs.lemmas.Bool.{and_parts, eqb-true, le-leb, ltb-true, ne_eqb, true≢false, false≢true}
 use Rattle.std.specs.Int.{int_max, int_min}
-use Rattle.std.specs.List.{AllByRecursion as All}
+use Rattle.std.specs.List.{AllByRecursion}
 use Rattle.store.specs.Stores.{Cells}
 use Rattle.wire.specs.Stamps.{stamp, stamp_of_bound}
 use Rattle.wire.specs.declared.refusal.Refusal.{Refusal}
@@ -35,12 +35,12 @@ use Rattle.serial.proofs.Quiet.{Unnamed, any_none}
 use Rattle.serial.proofs.Solo.{Fine, Solo, Closed, Now, not_open, solo_step}
 
 -- The rows of t are fine where all that are t's are.
-kept_fine : (t : ℕ) (rows : List Row) → All (λ r. r.transaction ≡ t → Fine r) rows → All Fine (filter (λ r. eqb r.transaction t) rows)
+kept_fine : (t : ℕ) (rows : List Row) → AllByRecursion (λ r. r.transaction ≡ t → Fine r) rows → AllByRecursion Fine (filter (λ r. eqb r.transaction t) rows)
 kept_fine t [] a = tt
 kept_fine t (r ∷ rs) a = go (eqb r.transaction t) refl (kept_fine t rs a.1)
   where
-    go : (b : Bool) → eqb r.transaction t ≡ b → All Fine (filter (λ x. eqb x.transaction t) rs)
-        → All Fine (cond b (r ∷ filter (λ x. eqb x.transaction t) rs) (filter (λ x. eqb x.transaction t) rs))
+    go : (b : Bool) → eqb r.transaction t ≡ b → AllByRecursion Fine (filter (λ x. eqb x.transaction t) rs)
+        → AllByRecursion Fine (cond b (r ∷ filter (λ x. eqb x.transaction t) rs) (filter (λ x. eqb x.transaction t) rs))
     go true s later = (a.0 (eqb-true _ _ s), later)
     go false s later = later
 
@@ -56,12 +56,12 @@ lower_least : (rs : List Row) (a : ℤ) → pos 0 ≤ℤ a → pos 0 ≤ℤ fold
 lower_least [] a e = e
 lower_least (r ∷ rs) a e = lower_least rs (int_max a r.lower) (omega (arith, ints, clamps))
 
-lower_most : (rs : List Row) (a : ℤ) → a ≤ℤ pos 268435455 → All Fine rs → fold int_max a (map (λ r. r.lower) rs) ≤ℤ pos 268435455
+lower_most : (rs : List Row) (a : ℤ) → a ≤ℤ pos 268435455 → AllByRecursion Fine rs → fold int_max a (map (λ r. r.lower) rs) ≤ℤ pos 268435455
 lower_most [] a e f = e
 lower_most (r ∷ rs) a e f = let h = f.0.2 in lower_most rs (int_max a r.lower) (omega (arith, ints, clamps)) f.1
 
 -- The smallest upper bound is TOP.
-upper_least : (rs : List Row) (a : ℤ) → pos 268435455 ≤ℤ a → All Fine rs → pos 268435455 ≤ℤ fold int_min a (map (λ r. r.upper) rs)
+upper_least : (rs : List Row) (a : ℤ) → pos 268435455 ≤ℤ a → AllByRecursion Fine rs → pos 268435455 ≤ℤ fold int_min a (map (λ r. r.upper) rs)
 upper_least [] a e f = e
 upper_least (r ∷ rs) a e f = let h = f.0.0 in upper_least rs (int_min a r.upper) (omega (arith, ints, clamps)) f.1
 
@@ -84,7 +84,7 @@ range_commits l u a b c = go (lt_z u l) refl
     go false s = bound_commits l a b
 
 -- Rows that are all fine commit.
-fine_commits : (rs : List Row) → All Fine rs → CommitDecision (decision_of rs)
+fine_commits : (rs : List Row) → AllByRecursion Fine rs → CommitDecision (decision_of rs)
 fine_commits rs f =
     subst (λ x. CommitDecision (cond x decision.Aborted (decision_in (largest_lower rs) (smallest_upper rs))))
     (sym (any_none Fine (λ r. is_aborted r.state) (λ r q. live_not r.state q.3) rs f))
@@ -106,18 +106,18 @@ decide_commits P t found m n =
     n)
 
 -- The keys of a day are among those of the day after more calls.
-keys_grow : (Q : ℕ → Type 0) (P : Chooses) (t : ℕ) (d : Day) (cs : List Call) → All Q (keys_of (day_after P d cs).history t)
-    → All Q (keys_of d.history t)
+keys_grow : (Q : ℕ → Type 0) (P : Chooses) (t : ℕ) (d : Day) (cs : List Call) → AllByRecursion Q (keys_of (day_after P d cs).history t)
+    → AllByRecursion Q (keys_of d.history t)
 keys_grow Q P t d [] a = a
 keys_grow Q P t d (c ∷ cs) a = later (key_in t c (step P d.model c).1) (keys_grow Q P t (next P d c) cs a)
   where
-    later : (xs : List ℕ) → All Q (xs ++ keys_of d.history t) → All Q (keys_of d.history t)
+    later : (xs : List ℕ) → AllByRecursion Q (xs ++ keys_of d.history t) → AllByRecursion Q (keys_of d.history t)
     later [] h = h
     later (x ∷ xs) h = later xs h.1
 
 -- It is decided or alone after all its calls.
 solo_day : (P : Chooses) → Meaning P → (t : ℕ) (found : Cells) (d : Day) (own : List Call) → Now t found d.model
-    → All (λ c. caller c ≡ t) own → All (Fresh found) (keys_of (day_after P d own).history t)
+    → AllByRecursion (λ c. caller c ≡ t) own → AllByRecursion (Fresh found) (keys_of (day_after P d own).history t)
     → Now t found (day_after P d own).model
 solo_day P means t found d [] n a f = n
 solo_day P means t found d (c ∷ cs) n a f =

@@ -5,7 +5,7 @@ use Rattle.std.proofs.Common.{◌≡◌, ◌<◌, ◌≤◌, Bool, true, false, 
 use Rattle.std.proofs.ByRecursion.{All-weaker}
 use Rattle.std.proofs.lemmas.Bool.{true≢false}
 use Rattle.std.proofs.lemmas.Bool.Decides.{nat_tests}
-use Rattle.std.specs.List.{AllByRecursion as All}
+use Rattle.std.specs.List.{AllByRecursion}
 use Rattle.serial.specs.Ledger.{Commit}
 use Rattle.serial.specs.Arrangements.{earlier, inserted, in_order}
 use Rattle.serial.proofs.Member.{In, in_all, all_each}
@@ -33,12 +33,12 @@ earlier_other a b n e = grind (arith, nat_tests)
 -- Commits by rising stamp, equal stamps by rising number.
 abbrev pub Sorted : List Commit → Type 0
 Sorted [] = Unit {0}
-Sorted (c ∷ cs) = All (λ d. earlier c d ≡ true) cs × Sorted cs
+Sorted (c ∷ cs) = AllByRecursion (λ d. earlier c d ≡ true) cs × Sorted cs
 
 -- No transaction commits twice.
 abbrev pub Once : List Commit → Type 0
 Once [] = Unit {0}
-Once (c ∷ cs) = All (λ d. eqb c.number d.number ≡ false) cs × Once cs
+Once (c ∷ cs) = AllByRecursion (λ d. eqb c.number d.number ≡ false) cs × Once cs
 
 -- Two commits of one transaction are one.
 pub once_same : (cs : List Commit) → Once cs → (a b : Commit) → In a cs → In b cs → eqb a.number b.number ≡ true → a ≡ b
@@ -51,16 +51,16 @@ once_same (c ∷ cs) o a b (inr i) (inl q) e =
 once_same (c ∷ cs) o a b (inr i) (inr j) e = once_same cs o.1 a b i j e
 
 -- What holds of a commit and of some others holds of all with it in its place.
-inserted_all : (Q : Commit → Type 0) (c : Commit) (ds : List Commit) → Q c → All Q ds → All Q (inserted c ds)
+inserted_all : (Q : Commit → Type 0) (c : Commit) (ds : List Commit) → Q c → AllByRecursion Q ds → AllByRecursion Q (inserted c ds)
 inserted_all Q c [] q a = (q, tt)
 inserted_all Q c (d ∷ ds) q a = go (earlier c d) (inserted_all Q c ds q a.1)
   where
-    go : (b : Bool) → All Q (inserted c ds) → All Q (cond b (c ∷ d ∷ ds) (d ∷ inserted c ds))
+    go : (b : Bool) → AllByRecursion Q (inserted c ds) → AllByRecursion Q (cond b (c ∷ d ∷ ds) (d ∷ inserted c ds))
     go true later = (q, a)
     go false later = (a.0, later)
 
 -- A commit put in its place among others in order.
-inserted_sorted : (c : Commit) (ds : List Commit) → All (λ d. eqb c.number d.number ≡ false) ds → Sorted ds → Sorted (inserted c ds)
+inserted_sorted : (c : Commit) (ds : List Commit) → AllByRecursion (λ d. eqb c.number d.number ≡ false) ds → Sorted ds → Sorted (inserted c ds)
 inserted_sorted c [] n s = (tt, tt)
 inserted_sorted c (d ∷ ds) n s = go (earlier c d) refl (inserted_sorted c ds n.1 s.1)
   where
@@ -81,7 +81,7 @@ inserted_in c x (d ∷ ds) i = go (earlier c d) i (λ j. inserted_in c x ds j)
     go false (inr (inr r)) later = inr (later (inr r))
 
 -- What holds of all holds of all in order.
-in_order_all : (Q : Commit → Type 0) (cs : List Commit) → All Q cs → All Q (in_order cs)
+in_order_all : (Q : Commit → Type 0) (cs : List Commit) → AllByRecursion Q cs → AllByRecursion Q (in_order cs)
 in_order_all Q [] a = tt
 in_order_all Q (c ∷ cs) a = inserted_all Q c (in_order cs) a.0 (in_order_all Q cs a.1)
 

@@ -5,7 +5,7 @@ use Rattle.std.proofs.Common.{◌≡◌, ℕ, ◌≤◌, Bool, true, false, cond
 use Rattle.std.proofs.ByRecursion.{All-append, All-push, All-map, All-weaker}
 use Rattle.std.proofs.lemmas.Bool.{eqb-true, ltb-false, true≢false}
 use Rattle.std.specs.Ordering.{is_lt, nat_cmp}
-use Rattle.std.specs.List.{AllByRecursion as All}
+use Rattle.std.specs.List.{AllByRecursion}
 use Rattle.book.proofs.Largest.{none_above}
 use Rattle.book.proofs.Orders.{by_number}
 use Rattle.book.specs.Books.{above, greatest}
@@ -43,36 +43,36 @@ reached n j e = go (ltb n j) refl e
     go true s q = absurd (true≢false q)
     go false s q = ltb-false n j s
 
-greatest_all : (ns : List ℕ) → All (λ x. x ≤ unwrap_or (greatest nat_cmp ns) 0) ns
+greatest_all : (ns : List ℕ) → AllByRecursion (λ x. x ≤ unwrap_or (greatest nat_cmp ns) 0) ns
 greatest_all [] = tt
 greatest_all (n ∷ ns) = All-weaker _ _ (reached (above nat_cmp n ns)) (n ∷ ns) (none_above nat_cmp by_number (n ∷ ns))
 
 -- What holds of all of a mapped list holds of the images.
-all_unmap : {X Y : Type 0} (Q : Y → Type 0) (f : X → Y) (xs : List X) → All Q (map f xs) → All (λ x. Q (f x)) xs
+all_unmap : {X Y : Type 0} (Q : Y → Type 0) (f : X → Y) (xs : List X) → AllByRecursion Q (map f xs) → AllByRecursion (λ x. Q (f x)) xs
 all_unmap Q f [] a = tt
 all_unmap Q f (x ∷ xs) a = (a.0, all_unmap Q f xs a.1)
 
 -- What holds of all of two lists holds of the first.
-pub all_first : {X : Type 0} (Q : X → Type 0) (xs ys : List X) → All Q (xs ++ ys) → All Q xs
+pub all_first : {X : Type 0} (Q : X → Type 0) (xs ys : List X) → AllByRecursion Q (xs ++ ys) → AllByRecursion Q xs
 all_first Q [] ys a = tt
 all_first Q (x ∷ xs) ys a = (a.0, all_first Q xs ys a.1)
 
 -- Every number in the rows, the read lines, the write lines and the notes is at most n.
 abbrev pub Books : ℕ → Model → Type 0
 Books n m =
-    All (λ r. r.transaction ≤ n) m.rows × All (λ x. x.transaction ≤ n) m.reads
-    × All (λ x. x.transaction ≤ n) m.writes × All (λ x. (x.first ≤ n) × (x.second ≤ n)) m.notes
+    AllByRecursion (λ r. r.transaction ≤ n) m.rows × AllByRecursion (λ x. x.transaction ≤ n) m.reads
+    × AllByRecursion (λ x. x.transaction ≤ n) m.writes × AllByRecursion (λ x. (x.first ≤ n) × (x.second ≤ n)) m.notes
 
 -- What bounds the numbers begun bounds every number in the books.
 abbrev pub Known : Model → Type 0
-Known m = (n : ℕ) → All (λ x. x.number ≤ n) m.transactions → Books n m
+Known m = (n : ℕ) → AllByRecursion (λ x. x.number ≤ n) m.transactions → Books n m
 
 -- So the largest number begun bounds them.
 pub known_begun : (m : Model) → Known m → Books (last_begun m) m
 known_begun m known = known (last_begun m) (all_unmap _ (λ x. x.number) m.transactions (greatest_all (map (λ x. x.number) m.transactions)))
 
 -- An open transaction was begun.
-open_known : (n : ℕ) (m : Model) (t : ℕ) → open_now m t ≡ Ok tt → All (λ x. x.number ≤ n) m.transactions → t ≤ n
+open_known : (n : ℕ) (m : Model) (t : ℕ) → open_now m t ≡ Ok tt → AllByRecursion (λ x. x.number ≤ n) m.transactions → t ≤ n
 open_known n m t e a = go (transaction_of m t) refl e
   where
     go : (o : Option Transaction) → transaction_of m t ≡ o → open_line o ≡ Ok tt → t ≤ n
@@ -83,44 +83,44 @@ open_known n m t e a = go (transaction_of m t) refl e
         subst (λ u. u ≤ n) i b
 
 -- The holders of locks have lines.
-locks_known : (Q : ℕ → Type 0) (rows : List Row) (k : ℕ) (xs : List AccessKey) → All (λ x. Q x.transaction) xs → All Q (locks_on rows k xs)
+locks_known : (Q : ℕ → Type 0) (rows : List Row) (k : ℕ) (xs : List AccessKey) → AllByRecursion (λ x. Q x.transaction) xs → AllByRecursion Q (locks_on rows k xs)
 locks_known Q rows k [] a = tt
 locks_known Q rows k (x ∷ xs) a = go (eqb x.key k && lock_stands rows x.transaction k) (locks_known Q rows k xs a.1)
   where
-    go : (b : Bool) → All Q (locks_on rows k xs) → All Q (cond b (x.transaction ∷ locks_on rows k xs) (locks_on rows k xs))
+    go : (b : Bool) → AllByRecursion Q (locks_on rows k xs) → AllByRecursion Q (cond b (x.transaction ∷ locks_on rows k xs) (locks_on rows k xs))
     go true later = (a.0, later)
     go false later = later
 
-others_known : (Q : ℕ → Type 0) (t : ℕ) (us : List ℕ) → All Q us → All Q (others t us)
+others_known : (Q : ℕ → Type 0) (t : ℕ) (us : List ℕ) → AllByRecursion Q us → AllByRecursion Q (others t us)
 others_known Q t [] a = tt
 others_known Q t (u ∷ us) a = go (eqb u t) (others_known Q t us a.1)
   where
-    go : (b : Bool) → All Q (others t us) → All Q (cond b (others t us) (u ∷ others t us))
+    go : (b : Bool) → AllByRecursion Q (others t us) → AllByRecursion Q (cond b (others t us) (u ∷ others t us))
     go true later = later
     go false later = (a.0, later)
 
 -- The row that a transaction needs is its own.
-needed_known : (n : ℕ) (o : Option Row) (t g : ℕ) → t ≤ n → All (λ r. r.transaction ≤ n) (row_needed o t g)
+needed_known : (n : ℕ) (o : Option Row) (t g : ℕ) → t ≤ n → AllByRecursion (λ r. r.transaction ≤ n) (row_needed o t g)
 needed_known n None t g e = (e, tt)
 needed_known n (Some r) t g e = tt
 
 -- A decision leaves the numbers of the transaction lines.
 numbers_kept : (n t : ℕ) (d : Decision) (xs : List Transaction)
-    → All (λ x. x.number ≤ n) (replaced eqb (λ x. x.number) t (record { number = t; decision = d }) xs) → All (λ x. x.number ≤ n) xs
+    → AllByRecursion (λ x. x.number ≤ n) (replaced eqb (λ x. x.number) t (record { number = t; decision = d }) xs) → AllByRecursion (λ x. x.number ≤ n) xs
 numbers_kept n t d [] a = tt
 numbers_kept n t d (x ∷ xs) a = go (eqb x.number t) refl a (λ b. numbers_kept n t d xs b)
   where
     go : (b : Bool) → eqb x.number t ≡ b
-        → All (λ y. y.number ≤ n)
+        → AllByRecursion (λ y. y.number ≤ n)
         (cond b (record { number = t; decision = d } ∷ xs) (x ∷ replaced eqb (λ y. y.number) t (record { number = t; decision = d }) xs))
-        → (All (λ y. y.number ≤ n) (replaced eqb (λ y. y.number) t (record { number = t; decision = d }) xs) → All (λ y. y.number ≤ n) xs)
-        → All (λ y. y.number ≤ n) (x ∷ xs)
+        → (AllByRecursion (λ y. y.number ≤ n) (replaced eqb (λ y. y.number) t (record { number = t; decision = d }) xs) → AllByRecursion (λ y. y.number ≤ n) xs)
+        → AllByRecursion (λ y. y.number ≤ n) (x ∷ xs)
     go true s h later = (subst (λ u. u ≤ n) (sym (eqb-true _ _ s)) h.0, h.1)
     go false s h later = (h.0, later h.1)
 
 -- A row that was moved is the same transaction's.
-moved_known : (n : ℕ) (rows : List Row) (t g : ℕ) (r : Row) (e : Event) → r.transaction ≤ n → All (λ x. x.transaction ≤ n) rows
-    → All (λ x. x.transaction ≤ n) (row_moved t g r e rows)
+moved_known : (n : ℕ) (rows : List Row) (t g : ℕ) (r : Row) (e : Event) → r.transaction ≤ n → AllByRecursion (λ x. x.transaction ≤ n) rows
+    → AllByRecursion (λ x. x.transaction ≤ n) (row_moved t g r e rows)
 moved_known n rows t g r e b a =
     all_replaced same_row row_key (key t g) (λ x. x.transaction ≤ n) (moved r e).0
     (subst (λ k. k.transaction ≤ n) (sym (moves_owner r r.state e)) b) rows a
@@ -130,7 +130,7 @@ module _ (P : Chooses) (m : Model) (known : Known m) where
   After o = Known o.0
 
   -- A row that was found is known.
-  found_known : (n t g : ℕ) (r : Row) → row_of m.rows t g ≡ Some r → All (λ x. x.number ≤ n) m.transactions → r.transaction ≤ n
+  found_known : (n t g : ℕ) (r : Row) → row_of m.rows t g ≡ Some r → AllByRecursion (λ x. x.number ≤ n) m.transactions → r.transaction ≤ n
   found_known n t g r at a = find_all same_row row_key (key t g) (λ x. x.transaction ≤ n) m.rows r (known n a).0 at
 
   decided_known : (t : ℕ) (d : Decision) → Known (decided_as m t d)

@@ -1,7 +1,7 @@
 -- The first line of a key, after a list grows, is mapped, or has a line replaced.
 use Rattle.std.proofs.Common.{◌≡◌, ℕ, Bool, true, false, cond, List, [], ◌∷◌, ◌++◌, map, Some, None, Option, refl, ap, arith}
 use Rattle.std.specs.Option.{option_map}
-use Rattle.std.specs.List.{AllByRecursion as All}
+use Rattle.std.specs.List.{AllByRecursion}
 use Rattle.book.specs.Books.{line_with}
 use Rattle.register.specs.Model.{replaced}
 
@@ -53,7 +53,7 @@ module _ {X K : Type 0} (same : K → K → Bool) (f : X → K) (k : K) where
       go false s later = ap (λ o. cond (same (f x) k) (Some x) o) later
 
   -- What holds of every line holds of the one that is found.
-  pub find_all : (Q : X → Type 0) (xs : List X) (x : X) → All Q xs → line_with same f k xs ≡ Some x → Q x
+  pub find_all : (Q : X → Type 0) (xs : List X) (x : X) → AllByRecursion Q xs → line_with same f k xs ≡ Some x → Q x
   find_all Q [] x a q = let z : ◌≡◌ {A = ℕ} 0 1 = cc in absurd (omega arith)
   find_all Q (y ∷ ys) x a q = go (same (f y) k) q (λ d. find_all Q ys x a.1 d)
     where
@@ -62,10 +62,10 @@ module _ {X K : Type 0} (same : K → K → Bool) (f : X → K) (k : K) where
       go false d later = later d
 
   -- What holds of every line, and of the one put in, holds after a replacement.
-  pub all_replaced : (Q : X → Type 0) (y : X) → Q y → (xs : List X) → All Q xs → All Q (replaced same f k y xs)
+  pub all_replaced : (Q : X → Type 0) (y : X) → Q y → (xs : List X) → AllByRecursion Q xs → AllByRecursion Q (replaced same f k y xs)
   all_replaced Q y h [] a = tt
   all_replaced Q y h (x ∷ xs) a = go (same (f x) k) (all_replaced Q y h xs a.1)
     where
-      go : (b : Bool) → All Q (replaced same f k y xs) → All Q (cond b (y ∷ xs) (x ∷ replaced same f k y xs))
+      go : (b : Bool) → AllByRecursion Q (replaced same f k y xs) → AllByRecursion Q (cond b (y ∷ xs) (x ∷ replaced same f k y xs))
       go true later = (h, a.1)
       go false later = (a.0, later)

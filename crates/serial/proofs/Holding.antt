@@ -2,7 +2,7 @@
 --   view h m       what the invariant speaks of
 --   Holds first h m
 use Rattle.std.proofs.Common.{◌≡◌, ℕ, true, ℤ, pos, ◌≤ℤ◌, Some}
-use Rattle.std.specs.List.{AllByRecursion as All}
+use Rattle.std.specs.List.{AllByRecursion}
 use Rattle.store.specs.Stores.{Cells}
 use Rattle.register.specs.Model.{Model}
 use Rattle.serial.specs.Ledger.{History, Commit, commits, reads_of, last_put}
@@ -38,7 +38,7 @@ Saw h t p = (w : ℕ) × (seen h t p.0 ≡ Some (p.1, w))
 
 -- Every accepted read was answered what the first of its key was.
 abbrev pub AlikeReads : History → Type 0
-AlikeReads h = (t : ℕ) → All (Saw h t) (reads_of h t)
+AlikeReads h = (t : ℕ) → AllByRecursion (Saw h t) (reads_of h t)
 
 -- All of it.
 pub record Holds (first : Cells) (h : History) (m : Model) : Type 0 where

@@ -4,7 +4,7 @@
 use Rattle.std.proofs.Common.{◌≡◌, ℕ, ◌<◌, Bool, true, false, eqb, ◌⊎◌, List, [], ◌∷◌, map, ℤ, pos, negsuc, Some, None, Option, sym, refl, ap, ◌∙◌, subst, inl, inr, ⊎_elim, arith}
 use Rattle.std.proofs.ByRecursion.{All-weaker}
 use Rattle.std.proofs.lemmas.Bool.{and_from, cases_Bool, eq-eqb}
-use Rattle.std.specs.List.{AllByRecursion as All}
+use Rattle.std.specs.List.{AllByRecursion}
 use Rattle.serial.specs.Ledger.{History, Commit, commits, reads_of, last_put}
 use Rattle.serial.specs.Arrangements.{Values, put_over, after_one, after_all, same_value, finds, all_found, told, earlier, in_order, serial_order}
 use Rattle.serial.proofs.Arrangement.{Sorted, Once, once_same, stamp_earlier, earlier_most, earlier_not}
@@ -46,7 +46,7 @@ module _ (h : History) (p : Commit → Bool) (k : ℕ) (o : Option ℤ) where
   last_none cs vs n (one u i q v e w f) = absurd (n u i q)
 
   -- The first commit passes, and its turn is over.
-  last_next : (a : Commit) (cs : List Commit) (vs : Values) → All (λ d. earlier a d ≡ true) cs → p a ≡ true
+  last_next : (a : Commit) (cs : List Commit) (vs : Values) → AllByRecursion (λ d. earlier a d ≡ true) cs → p a ≡ true
       → Last h p k o (a ∷ cs) vs → Last h p k o cs (after_one h a.number vs)
   last_next a cs vs s q (nobody e f) = nobody (go (last_put h a.number k) refl) (λ d i. f d (inr i))
     where
@@ -75,14 +75,14 @@ same_self (pos n) = eq-eqb n n refl
 same_self (negsuc n) = eq-eqb n n refl
 
 -- Reads that were answered what is there.
-found_all : (vs : Values) (ps : List (ℕ × ℤ)) → All (λ p. vs p.0 ≡ Some p.1) ps → all_found vs ps ≡ true
+found_all : (vs : Values) (ps : List (ℕ × ℤ)) → AllByRecursion (λ p. vs p.0 ≡ Some p.1) ps → all_found vs ps ≡ true
 found_all vs [] a = refl
 found_all vs (p ∷ ps) a =
     and_from (finds (vs p.0) p.1) _ (ap (λ o. finds o p.1) a.0 ∙ same_self p.1) (found_all vs ps a.1)
 
 -- Each read of c was answered what the last writer before c wrote.
 abbrev Answered : History → List Commit → Values → Commit → Type 0
-Answered h cs vs c = All (λ p. Last h (λ d. earlier d c) p.0 (Some p.1) cs vs) (reads_of h c.number)
+Answered h cs vs c = AllByRecursion (λ p. Last h (λ d. earlier d c) p.0 (Some p.1) cs vs) (reads_of h c.number)
 
 -- An arrangement all of whose reads were answered so tells the day.
 last_tells : (h : History) (cs : List Commit) (vs : Values) → Sorted cs → ((c : Commit) → In c cs → Answered h cs vs c)
@@ -147,7 +147,7 @@ module _ (h : History) (vs : Values) (once : Once (commits h)) where
 
 -- Where each read has its source, the serial order tells the day.
 pub order_tells : (h : History) (vs : Values) → Once (commits h)
-    → ((c : Commit) → In c (commits h) → All (λ p. Source h vs c p.0 p.1) (reads_of h c.number))
+    → ((c : Commit) → In c (commits h) → AllByRecursion (λ p. Source h vs c p.0 p.1) (reads_of h c.number))
     → told h (serial_order h) vs ≡ true
 order_tells h vs once a =
     last_tells h (in_order (commits h)) vs (in_order_sorted (commits h) once)

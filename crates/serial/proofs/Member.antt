@@ -6,7 +6,7 @@
 --   in_all, in_none              what holds of every line; a test that no line passes
 use Rattle.std.proofs.Common.{◌≡◌, ℕ, Bool, true, false, cond, ◌⊎◌, List, [], ◌∷◌, ◌++◌, map, Some, filter, sym, refl, ap, ◌∙◌, subst, inl, inr, arith}
 use Rattle.std.proofs.lemmas.Bool.{or_parts}
-use Rattle.std.specs.List.{flat_map, AllByRecursion as All}
+use Rattle.std.specs.List.{flat_map, AllByRecursion}
 use Rattle.book.specs.Books.{line_with}
 use Rattle.register.specs.Checks.{any}
 
@@ -62,7 +62,7 @@ in_found same f k (y ∷ ys) x e = go (same (f y) k) e (λ d. in_found same f k 
     go false d later = inr (later d)
 
 -- What holds of all holds of each.
-pub in_all : {X : Type 0} (Q : X → Type 0) (x : X) (xs : List X) → All Q xs → In x xs → Q x
+pub in_all : {X : Type 0} (Q : X → Type 0) (x : X) (xs : List X) → AllByRecursion Q xs → In x xs → Q x
 in_all Q x [] a i = absurd i
 in_all Q x (z ∷ zs) a (inl e) = subst Q e a.0
 in_all Q x (z ∷ zs) a (inr i) = in_all Q x zs a.1 i
@@ -74,6 +74,6 @@ in_none p x (z ∷ zs) n (inl e) = ap p (sym e) ∙ (or_parts (p z) _ n).0
 in_none p x (z ∷ zs) n (inr i) = in_none p x zs (or_parts (p z) _ n).1 i
 
 -- What holds of each that is in a list holds of all.
-pub all_each : {X : Type 0} (Q : X → Type 0) (xs : List X) → ((x : X) → In x xs → Q x) → All Q xs
+pub all_each : {X : Type 0} (Q : X → Type 0) (xs : List X) → ((x : X) → In x xs → Q x) → AllByRecursion Q xs
 all_each Q [] f = tt
 all_each Q (x ∷ xs) f = (f x (inl refl), all_each Q xs (λ y i. f y (inr i)))

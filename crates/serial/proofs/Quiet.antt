@@ -5,7 +5,7 @@ use Rattle.std.proofs.Common.{◌≡◌, ℕ, ◌<◌, Bool, true, false, cond, 
 use Rattle.std.proofs.ByRecursion.{All-append}
 use Rattle.std.proofs.lemmas.Int.{ints, clamps}
 use Rattle.std.proofs.lemmas.Bool.{and_left, and_right, and_parts, eqb-true, or_from}
-use Rattle.std.specs.List.{flat_map, AllByRecursion as All}
+use Rattle.std.specs.List.{flat_map, AllByRecursion}
 use Rattle.store.specs.declared.cell.Cell.{Cell}
 use Rattle.wire.specs.Keys.{ground_of}
 use Rattle.lines.proofs.Notes.{uninvolved}
@@ -41,18 +41,18 @@ use Rattle.register.specs.Validation.{
 use Rattle.serial.specs.Alone.{Fresh, fresh_cell}
 
 -- A list of which each line gives nothing.
-pub joined_none : {X Y : Type 0} (Q : X → Type 0) (f : X → List Y) → ((x : X) → Q x → f x ≡ []) → (xs : List X) → All Q xs → flat_map f xs ≡ []
+pub joined_none : {X Y : Type 0} (Q : X → Type 0) (f : X → List Y) → ((x : X) → Q x → f x ≡ []) → (xs : List X) → AllByRecursion Q xs → flat_map f xs ≡ []
 joined_none Q f e [] a = refl
 joined_none Q f e (x ∷ xs) a = rw (e x a.0) (joined_none Q f e xs a.1)
 
 -- What holds of all that each line gives holds of all that they give together.
-pub all_joined : {X Y : Type 0} (R : X → Type 0) (Q : Y → Type 0) (f : X → List Y) → ((x : X) → R x → All Q (f x)) → (xs : List X)
-    → All R xs → All Q (flat_map f xs)
+pub all_joined : {X Y : Type 0} (R : X → Type 0) (Q : Y → Type 0) (f : X → List Y) → ((x : X) → R x → AllByRecursion Q (f x)) → (xs : List X)
+    → AllByRecursion R xs → AllByRecursion Q (flat_map f xs)
 all_joined R Q f e [] a = tt
 all_joined R Q f e (x ∷ xs) a = All-append Q (f x) _ (e x a.0) (all_joined R Q f e xs a.1)
 
 -- A test that every line fails.
-pub any_none : {X : Type 0} (Q : X → Type 0) (p : X → Bool) → ((x : X) → Q x → p x ≡ false) → (xs : List X) → All Q xs → any p xs ≡ false
+pub any_none : {X : Type 0} (Q : X → Type 0) (p : X → Bool) → ((x : X) → Q x → p x ≡ false) → (xs : List X) → AllByRecursion Q xs → any p xs ≡ false
 any_none Q p e [] a = refl
 any_none Q p e (x ∷ xs) a = or_from (p x) _ (e x a.0) (any_none Q p e xs a.1)
 
@@ -76,7 +76,7 @@ module _ (m : Model) (t g : ℕ) where
       whether true i = i
       whether false i = refl
 
-  module _ (quiet : All (Unnamed t) m.notes) where
+  module _ (quiet : AllByRecursion (Unnamed t) m.notes) where
     pub no_ceilings : ceilings m t g ≡ []
     no_ceilings = joined_none (Unnamed t) _ (λ n q. ap effect_ceiling (says_nothing n q)) m.notes quiet
 
@@ -100,32 +100,32 @@ module _ (m : Model) (t g : ℕ) where
     Below x = x <ℤ pos 268435455
 
     -- Every stamp that a validation has to lie above is below TOP.
-    pub floors_below : All (λ x. x.transaction ≡ t → x.seen.number < 268435455) m.reads
-        → All (λ x. x.transaction ≡ t → Fresh m.cells x.key) m.writes → All Below (floors m t g)
+    pub floors_below : AllByRecursion (λ x. x.transaction ≡ t → x.seen.number < 268435455) m.reads
+        → AllByRecursion (λ x. x.transaction ≡ t → Fresh m.cells x.key) m.writes → AllByRecursion Below (floors m t g)
     floors_below rs ws =
         All-append Below (flat_map (read_floor t g) m.reads) _
         (all_joined _ Below (read_floor t g) (λ x q. of_read x q (of_here t g x.transaction x.key) refl) m.reads rs)
         (All-append Below (flat_map (write_floor m.cells t g) m.writes) _
         (all_joined _ Below (write_floor m.cells t g) (λ x q. of_write x q (of_here t g x.transaction x.key) refl) m.writes ws)
-        (subst (All Below) (sym no_note_floors) tt))
+        (subst (AllByRecursion Below) (sym no_note_floors) tt))
       where
         of_read : (x : ReadLine) → (x.transaction ≡ t → x.seen.number < 268435455) → (b : Bool)
-            → of_here t g x.transaction x.key ≡ b → All Below (cond b (pos x.seen.number ∷ []) [])
+            → of_here t g x.transaction x.key ≡ b → AllByRecursion Below (cond b (pos x.seen.number ∷ []) [])
         of_read x q true s =
             let h = q (eqb-true _ _ (and_parts (eqb x.transaction t) _ s).0) in
             (omega (arith, ints), tt)
         of_read x q false s = tt
 
-        of_cell : (o : Option Cell) → fresh_cell o → All Below (stamps_of o)
+        of_cell : (o : Option Cell) → fresh_cell o → AllByRecursion Below (stamps_of o)
         of_cell None f = tt
         of_cell (Some c) f = let a = f.0 in let b = f.1 in (omega (arith, ints), (omega (arith, ints), tt))
 
         of_write : (x : WriteLine) → (x.transaction ≡ t → Fresh m.cells x.key) → (b : Bool)
-            → of_here t g x.transaction x.key ≡ b → All Below (cond b (stamps_of (m.cells x.key)) [])
+            → of_here t g x.transaction x.key ≡ b → AllByRecursion Below (cond b (stamps_of (m.cells x.key)) [])
         of_write x q true s = of_cell (m.cells x.key) (q (eqb-true _ _ (and_parts (eqb x.transaction t) _ s).0))
         of_write x q false s = tt
 
 -- A lower bound stays up to TOP, where it is raised above numbers below TOP.
-pub raised_most : (l : ℤ) (xs : List ℤ) → l ≤ℤ pos 268435455 → All (λ x. x <ℤ pos 268435455) xs → raised_above l xs ≤ℤ pos 268435455
+pub raised_most : (l : ℤ) (xs : List ℤ) → l ≤ℤ pos 268435455 → AllByRecursion (λ x. x <ℤ pos 268435455) xs → raised_above l xs ≤ℤ pos 268435455
 raised_most l [] e a = e
 raised_most l (x ∷ xs) e a = let h = a.0 in raised_most (raise l x) xs (omega (arith, ints, clamps)) a.1

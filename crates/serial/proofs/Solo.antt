@@ -8,7 +8,7 @@ use Rattle.std.proofs.ByRecursion.{All-append, All-push, All-map, All-weaker}
 use Rattle.std.proofs.lemmas.Int.{ints}
 use Rattle.std.proofs.lemmas.Bool.{and_from, and_parts, or_parts, eq-eqb, eqb-true, true≢false, false≢true}
 use Rattle.std.specs.Option.{option_map}
-use Rattle.std.specs.List.{AllByRecursion as All}
+use Rattle.std.specs.List.{AllByRecursion}
 use Rattle.store.specs.Stores.{Cells}
 use Rattle.store.specs.declared.cell.Cell.{Cell}
 use Rattle.wire.specs.Keys.{ground_of}
@@ -70,10 +70,10 @@ Fine r = (r.upper ≡ pos 268435455) × (pos 0 ≤ℤ r.lower) × (r.lower ≤�
 pub record Solo (t : ℕ) (found : Cells) (m : Model) : Type 0 where
   pub cells : m.cells ≡ found
   pub only : Only t m.rows
-  pub notes : All (Unnamed t) m.notes
-  pub rows : All (λ r. r.transaction ≡ t → Fine r) m.rows
-  pub reads : All (λ x. x.transaction ≡ t → x.seen.number < 268435455) m.reads
-  pub writes : All (λ x. x.transaction ≡ t → Fresh m.cells x.key) m.writes
+  pub notes : AllByRecursion (Unnamed t) m.notes
+  pub rows : AllByRecursion (λ r. r.transaction ≡ t → Fine r) m.rows
+  pub reads : AllByRecursion (λ x. x.transaction ≡ t → x.seen.number < 268435455) m.reads
+  pub writes : AllByRecursion (λ x. x.transaction ≡ t → Fresh m.cells x.key) m.writes
 
 -- t is decided.
 pub record Closed (t : ℕ) (m : Model) : Type 0 where
@@ -101,7 +101,7 @@ own_locks t rows only k (x ∷ xs) = go (eqb x.key k && lock_stands rows x.trans
     go false s later = later
 
 -- And where t has no line, there is none.
-no_locks : (t : ℕ) (rows : List Row) → Only t rows → (k : ℕ) (xs : List AccessKey) → All (λ x. eqb x.transaction t ≡ false) xs
+no_locks : (t : ℕ) (rows : List Row) → Only t rows → (k : ℕ) (xs : List AccessKey) → AllByRecursion (λ x. eqb x.transaction t ≡ false) xs
     → locks_on rows k xs ≡ []
 no_locks t rows only k [] a = refl
 no_locks t rows only k (x ∷ xs) a = go (eqb x.key k && lock_stands rows x.transaction k) refl (no_locks t rows only k xs a.1)
@@ -113,20 +113,20 @@ no_locks t rows only k (x ∷ xs) a = go (eqb x.key k && lock_stands rows x.tran
     go false s later = later
 
 -- A transaction that passed the check has no write line.
-unwritten_all : (t : ℕ) (ws : List WriteLine) → any (λ w. eqb w.transaction t) ws ≡ false → All (λ w. eqb w.transaction t ≡ false) ws
+unwritten_all : (t : ℕ) (ws : List WriteLine) → any (λ w. eqb w.transaction t) ws ≡ false → AllByRecursion (λ w. eqb w.transaction t ≡ false) ws
 unwritten_all t [] e = tt
 unwritten_all t (w ∷ ws) e = let p = or_parts (eqb w.transaction t) _ e in (p.0, unwritten_all t ws p.1)
 
-unwritten_is : (m : Model) (t : ℕ) → unwritten m t ≡ Ok tt → All (λ w. eqb w.transaction t ≡ false) m.writes
+unwritten_is : (m : Model) (t : ℕ) → unwritten m t ≡ Ok tt → AllByRecursion (λ w. eqb w.transaction t ≡ false) m.writes
 unwritten_is m t e = go (any (λ w. eqb w.transaction t) m.writes) refl e
   where
     go : (b : Bool) → any (λ w. eqb w.transaction t) m.writes ≡ b → ◌≡◌ {A = Result Unit Refusal} (cond b (Err ReadAfterPrewrite) (Ok tt)) (Ok tt)
-        → All (λ w. eqb w.transaction t ≡ false) m.writes
+        → AllByRecursion (λ w. eqb w.transaction t ≡ false) m.writes
     go true s q = let z : ◌≡◌ {A = ℕ} 0 1 = cc in absurd (omega arith)
     go false s q = unwritten_all t m.writes s
 
 -- The row that t needs is fine.
-needed_fine : (t g : ℕ) (o : Option Row) → All (λ r. r.transaction ≡ t → Fine r) (row_needed o t g)
+needed_fine : (t g : ℕ) (o : Option Row) → AllByRecursion (λ r. r.transaction ≡ t → Fine r) (row_needed o t g)
 needed_fine t g None = ((λ _. (refl, omega (arith, ints), omega (arith, ints), refl)), tt)
 needed_fine t g (Some r) = tt
 
@@ -141,8 +141,8 @@ module _ (t : ℕ) (found : Cells) where
   Now m = Closed t m ⊎ Solo t found m
 
   -- The key that an accepted read or prewrite of t names.
-  own_key : (k : ℕ) → All (Fresh found) (cond (eqb t t && true) (k ∷ []) []) → Fresh found k
-  own_key k f = (subst (λ b. All (Fresh found) (cond b (k ∷ []) [])) (and_from (eqb t t) true (eq-eqb t t refl) refl) f).0
+  own_key : (k : ℕ) → AllByRecursion (Fresh found) (cond (eqb t t && true) (k ∷ []) []) → Fresh found k
+  own_key k f = (subst (λ b. AllByRecursion (Fresh found) (cond b (k ∷ []) [])) (and_from (eqb t t) true (eq-eqb t t refl) refl) f).0
 
   module _ (m : Model) (s : Solo t found m) where
     -- The cells are the ones that were found.
@@ -158,7 +158,7 @@ module _ (t : ℕ) (found : Cells) where
     read_solo k c at none f = record {
       cells = s.cells;
       only = needed_only t (ground_of k) m.rows s.only;
-      notes = subst (λ us. All (Unnamed t) (m.notes ++ map (before_note k t) us)) (sym empty) (All-append (Unnamed t) m.notes [] s.notes tt);
+      notes = subst (λ us. AllByRecursion (Unnamed t) (m.notes ++ map (before_note k t) us)) (sym empty) (All-append (Unnamed t) m.notes [] s.notes tt);
       rows = All-append _ m.rows _ s.rows (needed_fine t (ground_of k) (row_of m.rows t (ground_of k)));
       reads = All-push _ m.reads _ s.reads (λ _. (subst fresh_cell at (here k f)).0);
       writes = s.writes;
@@ -172,9 +172,9 @@ module _ (t : ℕ) (found : Cells) where
       cells = s.cells;
       only = needed_only t (ground_of k) m.rows s.only;
       notes =
-          subst (λ us. All (Unnamed t) (m.notes ++ (map (λ r. before_note k r t) us ++ map (apart_note k t) (others t (write_locks m k)))))
+          subst (λ us. AllByRecursion (Unnamed t) (m.notes ++ (map (λ r. before_note k r t) us ++ map (apart_note k t) (others t (write_locks m k)))))
           (sym (own_locks t m.rows s.only k (map read_key m.reads)))
-          (subst (λ us. All (Unnamed t) (m.notes ++ map (apart_note k t) us))
+          (subst (λ us. AllByRecursion (Unnamed t) (m.notes ++ map (apart_note k t) us))
           (sym (own_locks t m.rows s.only k (map write_key m.writes)))
           (All-append (Unnamed t) m.notes [] s.notes tt));
       rows = All-append _ m.rows _ s.rows (needed_fine t (ground_of k) (row_of m.rows t (ground_of k)));
@@ -320,7 +320,7 @@ module _ (t : ℕ) (found : Cells) where
   module _ (P : Chooses) (means : Meaning P) (m : Model) where
     -- Each call of t, with the keys that its reply says it named.
     abbrev Then : Call → Reply → Model → Type 0
-    Then c a n = All (Fresh found) (key_in t c a) → Now n
+    Then c a n = AllByRecursion (Fresh found) (key_in t c a) → Now n
 
     closed_step : (c : Call) → caller c ≡ t → Closed t m → Closed t (step P m c).0
     closed_step (call.Begin u) e c = begin_cases m u (λ o. Closed t o.0) (λ _. c) (λ _. more_closed m _ c)

@@ -4,7 +4,7 @@
 --   Fresh cells k      both stamps of the cell at k, if there is one, are below TOP
 --   Alone              the promise
 use Rattle.std.specs.Prelude.{◌≡◌, ℕ, ◌<◌, true, false, cond, ◌&&◌, List, [], ◌∷◌, ◌++◌, Some, None, Option, ◌==◌}
-use Rattle.std.specs.List.{flat_map, AllByRecursion as All}
+use Rattle.std.specs.List.{flat_map, AllByRecursion}
 use Rattle.store.specs.Stores.{Cells}
 use Rattle.store.specs.declared.cell.Cell.{Cell}
 use Rattle.wire.specs.declared.stamp.Stamp.{Stamp}
@@ -67,7 +67,7 @@ Alone P cells rooms calls =
     let after : Day = day_after P (next P before (Begin t)) own in
     NonePending before.history →
     accepted (step P before.model (Begin t)).1 ≡ true →
-    All (λ c. caller c ≡ t) own →
-    All (Fresh before.model.cells) (keys_of after.history t) →
+    AllByRecursion (λ c. caller c ≡ t) own →
+    AllByRecursion (Fresh before.model.cells) (keys_of after.history t) →
     accepted (step P after.model (Decide t)).1 ≡ true →
     Commits (step P after.model (Decide t)).1

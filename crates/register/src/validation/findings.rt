@@ -1,5 +1,5 @@
 ghost use Rattle.std.specs.Prelude.{◌≡◌, ◌<◌, ◌≤◌, map, length};
-ghost use Rattle.std.specs.List.{IsDistinct, AllByRecursion as All};
+ghost use Rattle.std.specs.List.{IsDistinct, AllByRecursion};
 ghost use Rattle.book.specs.Books.{held};
 ghost use Rattle.lines.specs.LineKeys.{row_key, same_row};
 ghost use Rattle.lines.specs.Rows.{Bounded};
@@ -52,7 +52,7 @@ impl Findings {
 
     // Adds what follows from one note for the transaction at the ground.
     fn add_note(&mut self, rows: &Book<Row>, transaction: u32, ground: u16, note: &Note)
-        requires bounded { All Bounded (held rows.now) }
+        requires bounded { AllByRecursion Bounded (held rows.now) }
         requires few { length (held rows.now) ≤ 256 }
         ensures { self.new ≡ noted (held rows.now) transaction ground self.old note.now }
     {
@@ -70,7 +70,7 @@ impl Findings {
         notes: &[Note],
         rows: &Book<Row>,
     ) -> Findings
-        requires bounded { All Bounded (held rows.now) }
+        requires bounded { AllByRecursion Bounded (held rows.now) }
         requires distinct { IsDistinct same_row (map row_key (held rows.now)) }
         requires few { length (held rows.now) ≤ 256 }
         ensures lower { result.lower ≡ raised_above lower (note_floors (held rows.now) notes.now transaction ground) }

@@ -1,5 +1,5 @@
 ghost use Rattle.std.specs.Prelude.{◌≡◌, ◌≤◌, length, pos, ◌≤ℤ◌};
-ghost use Rattle.std.specs.List.{AllByRecursion as All};
+ghost use Rattle.std.specs.List.{AllByRecursion};
 ghost use Rattle.book.specs.Books.{held, Stays};
 ghost use Rattle.lines.specs.Rows.{Bounded};
 ghost use Rattle.register.specs.Findings.{MadeWay};
@@ -28,9 +28,9 @@ pub fn make_way(rows: &mut Book<Row>, findings: &Findings, from: i32, to: i32)
     requires few { length (held rows.old) ≤ 256 }
     requires from { pos 0 ≤ℤ from }
     requires to { to ≤ℤ pos 268435455 }
-    requires bounded { All Bounded (held rows.old) }
+    requires bounded { AllByRecursion Bounded (held rows.old) }
     ensures lines { MadeWay (held rows.old) findings.now (from, to) (held rows.new) }
-    ensures bounded { All Bounded (held rows.new) }
+    ensures bounded { AllByRecursion Bounded (held rows.new) }
     ensures stays { Stays rows.old rows.new }
 {
     for i in 0..rows.len() {

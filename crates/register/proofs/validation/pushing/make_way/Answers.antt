@@ -3,7 +3,7 @@ use Rattle.std.proofs.ByRecursion.{All-set}
 use Rattle.std.proofs.lemmas.List.{length-set}
 use Rattle.std.proofs.lemmas.Option.{slice_get-get_or}
 use Rattle.std.proofs.lemmas.Int.{ints, to_z-of_z}
-use Rattle.std.specs.List.{AllByRecursion as All}
+use Rattle.std.specs.List.{AllByRecursion}
 use Rattle.book.specs.Books.{held, Stays}
 use Rattle.lines.specs.Rows.{Bounded}
 use Rattle.register.specs.Validation.{is_before, is_after, joins_among, pushed_by, pushed_among}
@@ -37,7 +37,7 @@ loop-i-preserved c =
             λ notes t g m. written
                 ∙ push_more (joins_among is_before old notes t g) (joins_among is_after old notes t g) (from, to) old before after rows i x
                 (omega arith) within m.before m.after (c.loop-i.invariant.0 notes t g m) read,
-            subst (All Bounded) (sym written) (All-set Bounded rows i new bounded c.loop-i.invariant.1),
+            subst (AllByRecursion Bounded) (sym written) (All-set Bounded rows i new bounded c.loop-i.invariant.1),
             subst (Stays c.args.rows.now) (sym w.rows-is) (stays_on _ _ _ c.loop-i.invariant.2 w.set.ensures.stays),
             ap length written ∙ (length-set rows i new ∙ c.loop-i.invariant.3),
           )

@@ -1,5 +1,5 @@
 use Rattle.std.proofs.Common.{◌≡◌, ℕ, List, ◌++◌, map, length, take, drop}
-use Rattle.std.specs.List.{AllByRecursion as All}
+use Rattle.std.specs.List.{AllByRecursion}
 use Rattle.book.specs.Books.{held, Stays}
 use Rattle.lines.specs.Rows.{Bounded}
 use Rattle.lines.specs.declared.note.Note.{Note}
@@ -13,6 +13,6 @@ invariant-loop-i l =
     let rows = held l.initial.rows in
     ((notes : List Note) (t g : ℕ) → Marked rows notes t g l.findings
     → held l.rows ≡ map (pushed_among rows notes t g (l.from, l.to)) (take l.i rows) ++ drop l.i rows)
-    × All Bounded (held l.rows)
+    × AllByRecursion Bounded (held l.rows)
     × Stays l.initial.rows l.rows
     × (length (held l.rows) ≡ length rows)
