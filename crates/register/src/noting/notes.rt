@@ -58,7 +58,7 @@ impl NewNotes {
     )
         requires { self.old.count + length lines.now ≤ 1024 }
         ensures notes { new_notes self.new
-            ≡ new_notes self.old ++ notes_met meeting access (held rows.now) (map keyed lines.now) }
+            ≡ new_notes self.old ++ notes_met meeting access (held rows.now) (map L.keyed lines.now) }
         ensures count { self.new.count ≤ self.old.count + length lines.now }
     {
         for line in lines {

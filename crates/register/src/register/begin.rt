@@ -15,9 +15,9 @@ const LAST_NUMBER: u32 = 4095;
 impl<'a, S: Store, P: Policy> Register<'a, S, P> {
     // Begins a transaction, whose number has to be above all that were begun.
     pub fn begin(&mut self, transaction: u32) -> Result<(), Refusal>
-        ensures model { ◌≡◌ (model cells self.new, result) (begin (model cells self.old) transaction) }
+        ensures model { ◌≡◌ (model S.cells self.new, result) (begin (model S.cells self.old) transaction) }
         ensures refused { Refuses result (self.new ≡ self.old) }
-        ensures keeps { Keeps lent self.old self.new }
+        ensures keeps { Keeps S.lent self.old self.new }
         ensures rest { KeepsButTransactions self.old self.new }
     {
         let last = self.transactions.largest().unwrap_or(0);

@@ -52,7 +52,7 @@ pub(super) fn running(row: &Row) -> Result<(), Refusal>
 impl<'a, S: Store, P: Policy> Register<'a, S, P> {
     // The line of a transaction, which has to be begun.
     fn line_of(&self, transaction: u32) -> Result<Transaction, Refusal>
-        ensures { result ≡ ok_or (transaction_of (model cells self.now) transaction) NeverBegun }
+        ensures { result ≡ ok_or (transaction_of (model S.cells self.now) transaction) NeverBegun }
     {
         self.transactions
             .find(transaction)
@@ -61,7 +61,7 @@ impl<'a, S: Store, P: Policy> Register<'a, S, P> {
 
     // That a transaction was begun and is not decided.
     pub(super) fn open_now(&self, transaction: u32) -> Result<(), Refusal>
-        ensures { result ≡ open_now (model cells self.now) transaction }
+        ensures { result ≡ open_now (model S.cells self.now) transaction }
     {
         match self.line_of(transaction)?.decision {
             Decision::Open => Ok(()),
@@ -71,7 +71,7 @@ impl<'a, S: Store, P: Policy> Register<'a, S, P> {
 
     // That no row of a transaction, at any ground, is Running.
     pub(super) fn none_running(&self, transaction: u32) -> Result<(), Refusal>
-        ensures { result ≡ none_running (model cells self.now) transaction }
+        ensures { result ≡ none_running (model S.cells self.now) transaction }
     {
         if any_running(self.rows.lines(), transaction) {
             return Err(Refusal::StillRunning);
@@ -81,7 +81,7 @@ impl<'a, S: Store, P: Policy> Register<'a, S, P> {
 
     // The cell of a key.
     pub(super) fn cell_here(&self, key: u16) -> Result<Cell, Refusal>
-        ensures { result ≡ cell_here (cells self.now.store key) }
+        ensures { result ≡ cell_here (S.cells self.now.store key) }
     {
         self.store.fetch(key).ok_or(Refusal::NoSuchKey)
     }
@@ -109,7 +109,7 @@ impl<'a, S: Store, P: Policy> Register<'a, S, P> {
 
     // That the transaction has prewritten nothing, at any ground.
     pub(super) fn unwritten(&self, transaction: u32) -> Result<(), Refusal>
-        ensures { result ≡ unwritten (model cells self.now) transaction }
+        ensures { result ≡ unwritten (model S.cells self.now) transaction }
     {
         if any_write(self.writes.lines(), transaction) {
             return Err(Refusal::ReadAfterPrewrite);

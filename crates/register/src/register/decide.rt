@@ -15,9 +15,9 @@ use wire::refusal::Refusal;
 impl<'a, S: Store, P: Policy> Register<'a, S, P> {
     // Decides a transaction by its rows, none of which may be Running.
     pub fn decide(&mut self, transaction: u32) -> Result<Decision, Refusal>
-        ensures model { ◌≡◌ (model cells self.new, result) (decide (model cells self.old) transaction) }
+        ensures model { ◌≡◌ (model S.cells self.new, result) (decide (model S.cells self.old) transaction) }
         ensures refused { Refuses result (self.new ≡ self.old) }
-        ensures keeps { Keeps lent self.old self.new }
+        ensures keeps { Keeps S.lent self.old self.new }
         ensures rest { KeepsButTransactions self.old self.new }
     {
         self.open_now(transaction)?;
@@ -29,8 +29,8 @@ impl<'a, S: Store, P: Policy> Register<'a, S, P> {
 
     // Writes a decision into the line of a transaction.
     pub(super) fn set_decision(&mut self, transaction: u32, decision: Decision)
-        ensures model { model cells self.new ≡ decided_as (model cells self.old) transaction decision }
-        ensures keeps { Keeps lent self.old self.new }
+        ensures model { model S.cells self.new ≡ decided_as (model S.cells self.old) transaction decision }
+        ensures keeps { Keeps S.lent self.old self.new }
         ensures rest { KeepsButTransactions self.old self.new }
     {
         let line = Transaction {

@@ -22,7 +22,7 @@ impl<'a, S: Store, P: Policy> Register<'a, S, P> {
         writes: &'a mut [WriteLine],
         notes: &'a mut [Note],
     ) -> Register<'a, S, P>
-        ensures model { model cells result ≡ new (cells store)
+        ensures model { model S.cells result ≡ new (S.cells store)
             (rooms_in (length transactions.old) (length rows.old) (length reads.old)
             (length writes.old) (length notes.old)) }
         ensures store { result.store ≡ store }

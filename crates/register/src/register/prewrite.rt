@@ -14,9 +14,9 @@ use wire::refusal::Refusal;
 impl<'a, S: Store, P: Policy> Register<'a, S, P> {
     // Says what a transaction will write into a cell. A second prewrite of a key replaces the value.
     pub fn prewrite(&mut self, transaction: u32, key: u16, value: i16) -> Result<(), Refusal>
-        ensures model { ◌≡◌ (model cells self.new, result) (prewrite (model cells self.old) transaction key value) }
+        ensures model { ◌≡◌ (model S.cells self.new, result) (prewrite (model S.cells self.old) transaction key value) }
         ensures refused { Refuses result (self.new ≡ self.old) }
-        ensures keeps { Keeps lent self.old self.new }
+        ensures keeps { Keeps S.lent self.old self.new }
         ensures store { self.new.store ≡ self.old.store }
     {
         self.open_now(transaction)?;

@@ -14,9 +14,9 @@ use wire::stamp::Stamp;
 impl<'a, S: Store, P: Policy> Register<'a, S, P> {
     // Reads a cell: answers its value and write stamp, which stay the same for the transaction however often it reads.
     pub fn read(&mut self, transaction: u32, key: u16) -> Result<(i16, Stamp), Refusal>
-        ensures model { ◌≡◌ (model cells self.new, result) (read (model cells self.old) transaction key) }
+        ensures model { ◌≡◌ (model S.cells self.new, result) (read (model S.cells self.old) transaction key) }
         ensures refused { Refuses result (self.new ≡ self.old) }
-        ensures keeps { Keeps lent self.old self.new }
+        ensures keeps { Keeps S.lent self.old self.new }
         ensures store { self.new.store ≡ self.old.store }
     {
         self.open_now(transaction)?;

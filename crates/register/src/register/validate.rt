@@ -21,9 +21,9 @@ impl<'a, S: Store, P: Policy> Register<'a, S, P> {
     // What the reads, writes and notes of a transaction at a ground leave of its row's range, and which rows have to make way.
     fn findings(&self, transaction: u32, ground: u16, row: &Row) -> Findings
         ensures lower { result.lower
-            ≡ raised_above row.now.lower (floors (model cells self.now) transaction ground) }
+            ≡ raised_above row.now.lower (floors (model S.cells self.now) transaction ground) }
         ensures upper { result.upper
-            ≡ lowered_below row.now.upper (ceilings (model cells self.now) transaction ground) }
+            ≡ lowered_below row.now.upper (ceilings (model S.cells self.now) transaction ground) }
         ensures marked { Marked (held self.now.rows) (held self.now.notes) transaction ground result }
     {
         let lower = above_reads(row.lower, transaction, ground, self.reads.lines());
@@ -40,7 +40,7 @@ impl<'a, S: Store, P: Policy> Register<'a, S, P> {
 
     // The range that the policy takes of what was found.
     fn choose(&self, findings: &Findings) -> (i32, i32)
-        ensures { Takes cells chosen self.now findings.now result }
+        ensures { Takes S.cells P.chosen self.now findings.now result }
     {
         let near = Neighbours::of_marked(findings, self.rows.lines());
         self.policy.choose(
@@ -54,10 +54,10 @@ impl<'a, S: Store, P: Policy> Register<'a, S, P> {
     // Validates a transaction at a ground: answers the range of stamps that it keeps there, or nothing where none is left and its
     // row is Aborted.
     pub fn validate(&mut self, transaction: u32, ground: u16) -> Result<Option<(i32, i32)>, Refusal>
-        ensures model { ◌≡◌ (model cells self.new, result)
-            (validate (chosen self.old.policy) (model cells self.old) transaction ground) }
+        ensures model { ◌≡◌ (model S.cells self.new, result)
+            (validate (P.chosen self.old.policy) (model S.cells self.old) transaction ground) }
         ensures refused { Refuses result (self.new ≡ self.old) }
-        ensures keeps { Keeps lent self.old self.new }
+        ensures keeps { Keeps S.lent self.old self.new }
         ensures rest { KeepsButRows self.old self.new }
     {
         self.open_now(transaction)?;

@@ -12,9 +12,9 @@ use wire::refusal::Refusal;
 impl<'a, S: Store, P: Policy> Register<'a, S, P> {
     // Aborts a transaction that is not decided.
     pub fn withdraw(&mut self, transaction: u32) -> Result<(), Refusal>
-        ensures model { ◌≡◌ (model cells self.new, result) (withdraw (model cells self.old) transaction) }
+        ensures model { ◌≡◌ (model S.cells self.new, result) (withdraw (model S.cells self.old) transaction) }
         ensures refused { Refuses result (self.new ≡ self.old) }
-        ensures keeps { Keeps lent self.old self.new }
+        ensures keeps { Keeps S.lent self.old self.new }
         ensures rest { KeepsButTransactions self.old self.new }
     {
         self.open_now(transaction)?;

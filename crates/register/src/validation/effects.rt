@@ -29,7 +29,9 @@ pub fn located_effect(
 ) -> Option<(usize, Effect)>
     ensures { Located (held rows.now) transaction ground note.now result }
 {
-    if Place::of_key(note.key).burial_ground != ground || matches!(note.side(transaction), Side::Neither) {
+    if Place::of_key(note.key).burial_ground != ground
+        || matches!(note.side(transaction), Side::Neither)
+    {
         return None;
     }
     let place = rows.search(RowKey {

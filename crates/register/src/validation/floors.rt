@@ -54,7 +54,7 @@ fn above_write<S: Store>(
     line: &WriteLine,
     store: &S,
 ) -> i32
-    ensures { result ≡ raised_above lower (write_floor (cells store.now) transaction ground line.now) }
+    ensures { result ≡ raised_above lower (write_floor (S.cells store.now) transaction ground line.now) }
 {
     if is_here(transaction, ground, line.transaction, line.key) {
         above_cell(lower, store.fetch(line.key))
@@ -71,7 +71,7 @@ pub fn above_writes<S: Store>(
     writes: &[WriteLine],
     store: &S,
 ) -> i32
-    ensures { result ≡ raised_above lower (flat_map (write_floor (cells store.now) transaction ground) writes.now) }
+    ensures { result ≡ raised_above lower (flat_map (write_floor (S.cells store.now) transaction ground) writes.now) }
 {
     let mut raised = lower;
     for line in writes {
