@@ -14,7 +14,8 @@ use Rattle.lines.specs.declared.row.Row.{Row}
 use Rattle.register.specs.Calls.{read, prewrite}
 use Rattle.register.specs.Checks.{has_room, open_now, cell_here, unless, unless_past, unwritten}
 use Rattle.register.specs.Model.{Model, read_of, write_of}
-use Rattle.register.specs.Noting.{row_needed, rows_needed, new_rows, notes_of_read, notes_of_prewrite}
+use Rattle.register.specs.Noting.{row_needed, new_rows, notes_of_read, notes_of_prewrite}
+use Rattle.register.specs.NotesByLines.{rows_needed}
 use Rattle.register.specs.RowBook.{SoundRows}
 use Rattle.register.proofs.RowBook.{sound_added}
 

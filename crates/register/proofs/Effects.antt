@@ -18,7 +18,8 @@ use Rattle.lines.specs.declared.note.Side.TheVariants.{Earlier, Later, Apart, Ne
 use Rattle.lines.specs.declared.row.Row.{Row}
 use Rattle.lines.specs.declared.row.State.{State}
 use Rattle.lines.specs.declared.row.State.TheVariants.{Running, Validated, Committed, Aborted}
-use Rattle.register.specs.Validation.{other_party, effect_with, effect_among}
+use Rattle.register.specs.Validation.{other_party, effect_with}
+use Rattle.register.specs.Among.{effect_among}
 use Rattle.register.specs.Findings.{FitsEffect, place_of}
 
 module _ (rows : List Row) (t g : ℕ) (n : Note) where

@@ -13,7 +13,8 @@ use Rattle.lines.specs.declared.note.Effect.TheVariants.{Nothing, LowerBelow, Ra
 use Rattle.lines.specs.declared.note.Note.{Note}
 use Rattle.lines.specs.declared.row.Row.{Row}
 use Rattle.register.specs.Findings.{unfound, with_effect, noted, place_of}
-use Rattle.register.specs.Validation.{raised_above, lowered_below, other_party, effect_among, effect_floor, effect_ceiling, is_before, is_after, joins_among}
+use Rattle.register.specs.Validation.{raised_above, lowered_below, other_party, effect_floor, effect_ceiling, is_before, is_after}
+use Rattle.register.specs.Among.{effect_among, joins_among}
 use Rattle.register.specs.declared.validation.findings.Findings.{Findings}
 use Rattle.register.proofs.Effects.{effect_without_row}
 use Rattle.register.proofs.Raising.{raised_append, lowered_append}

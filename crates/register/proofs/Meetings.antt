@@ -10,7 +10,8 @@ use Rattle.lines.specs.declared.access.WriteLine.{WriteLine}
 use Rattle.lines.specs.declared.note.Note.{Note}
 use Rattle.lines.specs.declared.row.Row.{Row}
 use Rattle.register.specs.Meetings.{note_between, noted, notes_met}
-use Rattle.register.specs.Noting.{locks_on, others, before_note, apart_note, read_notes, prewrite_notes}
+use Rattle.register.specs.Noting.{locks_on, others, before_note, apart_note}
+use Rattle.register.specs.NotesByLines.{read_notes, prewrite_notes}
 use Rattle.register.specs.declared.noting.meeting.Meeting.{Meeting}
 use Rattle.register.specs.declared.noting.meeting.Meeting.TheVariants.{ReadMeetsWrite, WriteMeetsRead, WriteMeetsWrite}
 

@@ -18,7 +18,7 @@ use Rattle.book.specs.declared.book.Book.{Book}
 use Rattle.lines.specs.LineKeys.{row_key}
 use Rattle.lines.specs.Rows.{Bounded}
 use Rattle.lines.specs.declared.row.Row.{Row}
-use Rattle.register.specs.Validation.{pushed_by}
+use Rattle.register.specs.Among.{pushed_by}
 use Rattle.register.proofs.Gathering.{shown_at}
 
 -- A line held is replaced.

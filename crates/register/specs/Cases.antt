@@ -55,13 +55,13 @@ abbrev pub commit : ℕ → Reply
 commit c = Committed (stamp c)
 
 -- A reply as numbers, so that two replies compare by their stamps' numbers: which reply it is, and what it holds.
-abbrev pub as_numbers : Reply → List ℤ
-as_numbers Done = pos 0 ∷ []
-as_numbers (Value v s) = pos 1 ∷ v ∷ pos s.number ∷ []
-as_numbers (Range l u) = pos 2 ∷ l ∷ u ∷ []
-as_numbers (Committed s) = pos 3 ∷ pos s.number ∷ []
-as_numbers Aborted = pos 4 ∷ []
-as_numbers (Refused r) = pos 5 ∷ pos (number_of r) ∷ []
+abbrev pub told : Reply → List ℤ
+told Done = pos 0 ∷ []
+told (Value v s) = pos 1 ∷ v ∷ pos s.number ∷ []
+told (Range l u) = pos 2 ∷ l ∷ u ∷ []
+told (Committed s) = pos 3 ∷ pos s.number ∷ []
+told Aborted = pos 4 ∷ []
+told (Refused r) = pos 5 ∷ pos (number_of r) ∷ []
 
 -- Cells at the keys that a list names, and nothing at others.
 abbrev pub cells_at : List (ℕ × Cell) → Cells
@@ -76,13 +76,13 @@ calls_of c = map (λ p. p.0) c.script
 abbrev pub outcome : Case → List (List ℤ) × List (Option Figures)
 outcome c =
     let start : Model = new (cells_at c.cells) c.rooms in (
-      map as_numbers (replies c.policy start (calls_of c)),
+      map told (replies c.policy start (calls_of c)),
       map (λ p. option_map figures ((left_by c.policy start (calls_of c)).cells p.0)) c.ends,
     )
 
 -- What the case says of it.
 abbrev pub wanted : Case → List (List ℤ) × List (Option Figures)
-wanted c = (map (λ p. as_numbers p.1) c.script, map (λ p. Some p.1) c.ends)
+wanted c = (map (λ p. told p.1) c.script, map (λ p. Some p.1) c.ends)
 
 -- The model makes of a case what the case says.
 abbrev pub Holds : Case → Type 0

@@ -3,14 +3,13 @@
 --   open_now          refusals 3 and 4: a transaction that was begun and is not decided
 --   decided_now       refusals 3 and 9: what the decision of one that is decided means for its rows
 --   row_here          refusal 6: the transaction's row at a ground
---   running           refusal 5: that row is Running
---   unless_past       refusal 5: there is no row yet, or it is Running
+--   running, unless_past   refusal 5: that row is Running; it is, or there is none yet
 --   unwritten         refusal 7: the transaction has prewritten nothing
 --   none_running      refusal 8: none of its rows is Running
 --   cell_here         refusal 11: the cell of a key
 --   new_number        refusal 1: a number above all begun, up to 4,095
 --   room_for          refusal 2: room for so many more lines
-use Rattle.std.specs.Prelude.{ℕ, ◌+◌, Bool, true, false, cond, ◌&&◌, ◌||◌, List, [], ◌∷◌, map, length, Some, None, Ok, Err, Option, Result, ◌==◌, nat_le, nat_lt}
+use Rattle.std.specs.Prelude.{ℕ, ◌+◌, Bool, true, false, cond, ◌&&◌, ◌||◌, List, [], ◌∷◌, map, length, Some, None, Ok, Err, Option, Result, ◌==◌, nat_eq, nat_le, nat_lt}
 use Rattle.std.specs.Option.{unwrap_or}
 use Rattle.wire.specs.declared.refusal.Refusal.{Refusal}
 use Rattle.wire.specs.declared.refusal.Refusal.TheVariants.{
@@ -27,7 +26,6 @@ use Rattle.wire.specs.declared.refusal.Refusal.TheVariants.{
 }
 use Rattle.store.specs.declared.cell.Cell.{Cell}
 use Rattle.book.specs.Books.{greatest}
-use Rattle.lines.specs.declared.access.WriteLine.{WriteLine}
 use Rattle.lines.specs.declared.row.Event.{Event}
 use Rattle.lines.specs.declared.row.Event.TheVariants.{Abort, Commit}
 use Rattle.lines.specs.declared.row.Row.{Row}
@@ -124,13 +122,9 @@ abbrev pub unless_past : Option Row → Result Unit Refusal
 unless_past None = Ok tt
 unless_past (Some r) = running r
 
--- A write line of a transaction.
-abbrev pub is_write_of : ℕ → WriteLine → Bool
-is_write_of t w = w.transaction == t
-
 -- The transaction has no write line, at any ground.
 abbrev pub unwritten : Model → ℕ → Result Unit Refusal
-unwritten m t = cond (any (is_write_of t) m.writes) (Err ReadAfterPrewrite) (Ok tt)
+unwritten m t = cond (any (λ w. nat_eq w.transaction t) m.writes) (Err ReadAfterPrewrite) (Ok tt)
 
 -- No row of the transaction, at any ground, is Running.
 abbrev pub none_running : Model → ℕ → Result Unit Refusal

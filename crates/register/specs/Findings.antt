@@ -17,7 +17,8 @@ use Rattle.lines.specs.declared.note.Effect.TheVariants.{Nothing, LowerBelow, Ra
 use Rattle.lines.specs.declared.note.Note.{Note}
 use Rattle.lines.specs.declared.row.Event.TheVariants.{Pass}
 use Rattle.lines.specs.declared.row.Row.{Row}
-use Rattle.register.specs.Validation.{raise, lower, other_party, effect_among, is_before, is_after, joins_among, befores_among, afters_among, pushed_among, row_moved}
+use Rattle.register.specs.Validation.{raise, lower, other_party, is_before, is_after, row_moved}
+use Rattle.register.specs.Among.{effect_among, joins_among, befores_among, afters_among, pushed_among}
 use Rattle.register.specs.declared.validation.findings.Findings.{Findings}
 use Rattle.register.specs.declared.validation.neighbours.RowBounds.{RowBounds}
 

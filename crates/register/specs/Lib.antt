@@ -1,4 +1,5 @@
 pub mod AllCases
+pub mod Among
 pub mod Calls
 pub mod Cases
 pub mod Checks
@@ -6,8 +7,10 @@ pub mod Days
 pub mod Deciding
 pub mod Decisions
 pub mod Findings
+pub mod LaterDays
 pub mod Meetings
 pub mod Model
+pub mod NotesByLines
 pub mod Noting
 pub mod Registers
 pub mod Room

@@ -1,8 +1,6 @@
 -- What a read and a prewrite write: their line, a row where the transaction has none yet, and notes for the soft locks they meet.
 --   read_locks m k, write_locks m k   the transactions whose soft locks stand on the key k, in the order of their lines
---   read_notes, prewrite_notes        the notes that a call writes, by the lines there are
---   rows_needed rows t k              the row that t needs at the ground of k, where it has none
---   notes_of_read, notes_of_prewrite  those notes of a register; new_rows is that row of a register
+--   notes_of_read, notes_of_prewrite  the notes that a call writes
 --   read_added, prewrite_added        the register with all that the call writes
 use Rattle.std.specs.Prelude.{ℕ, cond, ◌&&◌, List, [], ◌∷◌, ◌++◌, map, ℤ, Some, None, Option, ◌==◌}
 use Rattle.store.specs.declared.cell.Cell.{Cell}
@@ -11,8 +9,6 @@ use Rattle.lines.specs.LineKeys.{read_key, write_key}
 use Rattle.lines.specs.Locks.{lock_stands, row_of}
 use Rattle.lines.specs.Rows.{new_row}
 use Rattle.lines.specs.declared.access.AccessKey.{AccessKey}
-use Rattle.lines.specs.declared.access.ReadLine.{ReadLine}
-use Rattle.lines.specs.declared.access.WriteLine.{WriteLine}
 use Rattle.lines.specs.declared.note.Note.{Note}
 use Rattle.lines.specs.declared.note.Order.TheVariants.{Before, Apart}
 use Rattle.lines.specs.declared.row.Row.{Row}
@@ -46,22 +42,13 @@ abbrev pub apart_note : ℕ → ℕ → ℕ → Note
 apart_note k t u = record { key = k; first = t; second = u; order = Apart }
 
 -- A reader comes before each writer whose lock it meets.
-abbrev pub read_notes : List Row → List WriteLine → ℕ → ℕ → List Note
-read_notes rows writes t k = map (before_note k t) (locks_on rows k (map write_key writes))
+abbrev pub notes_of_read : Model → ℕ → ℕ → List Note
+notes_of_read m t k = map (before_note k t) (write_locks m k)
 
 -- Each other reader comes before the writer; then each other writer is apart from it.
-abbrev pub prewrite_notes : List Row → List ReadLine → List WriteLine → ℕ → ℕ → List Note
-prewrite_notes rows reads writes t k =
-    map (λ r. before_note k r t) (others t (locks_on rows k (map read_key reads)))
-    ++ map (apart_note k t) (others t (locks_on rows k (map write_key writes)))
-
--- The notes of a read.
-abbrev pub notes_of_read : Model → ℕ → ℕ → List Note
-notes_of_read m t k = read_notes m.rows m.writes t k
-
--- The notes of a prewrite.
 abbrev pub notes_of_prewrite : Model → ℕ → ℕ → List Note
-notes_of_prewrite m t k = prewrite_notes m.rows m.reads m.writes t k
+notes_of_prewrite m t k =
+    map (λ r. before_note k r t) (others t (read_locks m k)) ++ map (apart_note k t) (others t (write_locks m k))
 
 -- The row that a transaction needs at a ground, where it has none.
 abbrev pub row_needed : Option Row → ℕ → ℕ → List Row
@@ -69,12 +56,8 @@ row_needed None t g = new_row t g ∷ []
 row_needed (Some r) t g = []
 
 -- The row that a transaction needs for a key.
-abbrev pub rows_needed : List Row → ℕ → ℕ → List Row
-rows_needed rows t k = row_needed (row_of rows t (ground_of k)) t (ground_of k)
-
--- The same of a register.
 abbrev pub new_rows : Model → ℕ → ℕ → List Row
-new_rows m t k = rows_needed m.rows t k
+new_rows m t k = row_needed (row_of m.rows t (ground_of k)) t (ground_of k)
 
 -- The register after a first read of a key whose cell is c.
 abbrev pub read_added : Model → ℕ → ℕ → Cell → Model

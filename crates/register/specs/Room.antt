@@ -15,7 +15,7 @@ use Rattle.lines.specs.declared.access.WriteLine.{WriteLine}
 use Rattle.lines.specs.declared.note.Note.{Note}
 use Rattle.lines.specs.declared.row.Row.{Row}
 use Rattle.register.specs.Checks.{has_room}
-use Rattle.register.specs.Noting.{rows_needed, read_notes, prewrite_notes}
+use Rattle.register.specs.NotesByLines.{rows_needed, read_notes, prewrite_notes}
 use Rattle.register.specs.declared.noting.additions.Additions.{Additions}
 use Rattle.register.specs.declared.noting.notes.NewNotes.{NewNotes}
 

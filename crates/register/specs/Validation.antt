@@ -1,7 +1,6 @@
 -- What a validation of transaction t at ground g works out.
 --   floors m t g, ceilings m t g      what the range has to lie above, and what it has to lie below
 --   befores m t g, afters m t g       the lowers of the before rows and the uppers of the after rows, in the order of the row book
---   ..-among rows notes               the same by lists of rows and notes, for code that has no more of a register at hand
 --   failed, passed                    the register after a validation that failed, and after one that passed with a range
 use Rattle.std.specs.Prelude.{ℕ, Bool, true, false, cond, ◌&&◌, List, [], ◌∷◌, ◌++◌, map, ℤ, pos, ◌+ℤ◌, ◌-ℤ◌, Some, None, filter, Option, ◌==◌}
 use Rattle.std.specs.Int.{int_max, int_min}
@@ -69,12 +68,9 @@ effect_with n t None = Nothing
 effect_with n t (Some r) = effect_of n t r
 
 -- What follows from a note; notes of other grounds say nothing here.
-abbrev pub effect_among : List Row → ℕ → ℕ → Note → Effect
-effect_among rows t g n =
-    cond (ground_of n.key == g) (effect_with n t (row_of rows (other_party n t) g)) Nothing
-
 abbrev pub note_effect : Model → ℕ → ℕ → Note → Effect
-note_effect m t g n = effect_among m.rows t g n
+note_effect m t g n =
+    cond (ground_of n.key == g) (effect_with n t (row_of m.rows (other_party n t) g)) Nothing
 
 -- The bound that an effect raises the range above.
 abbrev pub effect_floor : Effect → List ℤ
@@ -108,60 +104,35 @@ is_after (RaiseAbove x) = false
 is_after JoinBefore = false
 is_after JoinAfter = true
 
--- What the notes of a transaction here raise its range above.
-abbrev pub note_floors : List Row → List Note → ℕ → ℕ → List ℤ
-note_floors rows notes t g = flat_map (λ n. effect_floor (effect_among rows t g n)) notes
-
--- What they lower it below.
-abbrev pub note_ceilings : List Row → List Note → ℕ → ℕ → List ℤ
-note_ceilings rows notes t g = flat_map (λ n. effect_ceiling (effect_among rows t g n)) notes
-
 -- What the range has to lie above: by the reads, the writes and the notes of the transaction here.
 abbrev pub floors : Model → ℕ → ℕ → List ℤ
 floors m t g =
     flat_map (read_floor t g) m.reads
-    ++ (flat_map (write_floor m.cells t g) m.writes ++ note_floors m.rows m.notes t g)
+    ++ (flat_map (write_floor m.cells t g) m.writes ++ flat_map (λ n. effect_floor (note_effect m t g n)) m.notes)
 
--- What it has to lie below: by the notes.
+-- What the range has to lie below.
 abbrev pub ceilings : Model → ℕ → ℕ → List ℤ
-ceilings m t g = note_ceilings m.rows m.notes t g
+ceilings m t g = flat_map (λ n. effect_ceiling (note_effect m t g n)) m.notes
 
 -- Whether some note puts a row on a list.
-abbrev pub joins_among : (Effect → Bool) → List Row → List Note → ℕ → ℕ → Row → Bool
-joins_among on rows notes t g r =
-    (r.ground == g) && any (λ n. on (effect_among rows t g n) && other_party n t == r.transaction) notes
-
 abbrev pub joins : (Effect → Bool) → Model → ℕ → ℕ → Row → Bool
-joins on m t g r = joins_among on m.rows m.notes t g r
+joins on m t g r =
+    (r.ground == g) && any (λ n. on (note_effect m t g n) && other_party n t == r.transaction) m.notes
 
 -- The lowers of the before rows.
-abbrev pub befores_among : List Row → List Note → ℕ → ℕ → List ℤ
-befores_among rows notes t g = map (λ r. r.lower) (filter (joins_among is_before rows notes t g) rows)
-
 abbrev pub befores : Model → ℕ → ℕ → List ℤ
-befores m t g = befores_among m.rows m.notes t g
+befores m t g = map (λ r. r.lower) (filter (joins is_before m t g) m.rows)
 
 -- The uppers of the after rows.
-abbrev pub afters_among : List Row → List Note → ℕ → ℕ → List ℤ
-afters_among rows notes t g = map (λ r. r.upper) (filter (joins_among is_after rows notes t g) rows)
-
 abbrev pub afters : Model → ℕ → ℕ → List ℤ
-afters m t g = afters_among m.rows m.notes t g
+afters m t g = map (λ r. r.upper) (filter (joins is_after m t g) m.rows)
 
--- A row after the range from l to u was taken: one that is before stays below l, one that is after above u.
-abbrev pub pushed_by : Bool → Bool → ℤ × ℤ → Row → Row
-pushed_by before after range r =
-    with_bounds r r.state
-    (cond after (raise r.lower range.1) r.lower)
-    (cond before (lower r.upper range.0) r.upper)
-
--- Rows make way as the notes put them on the two lists.
-abbrev pub pushed_among : List Row → List Note → ℕ → ℕ → ℤ × ℤ → Row → Row
-pushed_among rows notes t g range r =
-    pushed_by (joins_among is_before rows notes t g r) (joins_among is_after rows notes t g r) range r
-
+-- A row after the range from l to u was taken: a before row stays below l, an after row above u.
 abbrev pub pushed : Model → ℕ → ℕ → ℤ × ℤ → Row → Row
-pushed m t g range r = pushed_among m.rows m.notes t g range r
+pushed m t g range r =
+    with_bounds r r.state
+    (cond (joins is_after m t g r) (raise r.lower range.1) r.lower)
+    (cond (joins is_before m t g r) (lower r.upper range.0) r.upper)
 
 -- The rows with the transaction's own row here moved by an event.
 abbrev pub row_moved : (transaction ground : ℕ) → Row → Event → List Row → List Row

@@ -16,6 +16,7 @@ use Rattle.register.specs.Checks.{after, open_line, open_now, row_here, running}
 use Rattle.register.specs.Model.{Model, Chooses, transaction_of, with_rows}
 use Rattle.register.specs.Validation.{floors, ceilings, befores, afters, pushed, row_moved, failed, passed, raised_above, lowered_below}
 use Rattle.serial.specs.Agreement.{rows_at, Agree, SamePolicy, Local}
+use Rattle.serial.specs.Promise.{LocalUnder}
 use Rattle.serial.proofs.Kept.{kept_map, kept_replaced, line_passes}
 use Rattle.serial.proofs.Locality.{other_row, row_same, floors_same, ceilings_same, befores_same, afters_same, pushed_same}
 
@@ -116,7 +117,11 @@ validate_like P Q same m n t g a line =
     let at = (and_parts (eqb r.transaction t) (eqb r.ground g) key).1 in
     after_like g m n a (running r) (running r) refl _ _ (λ _ _. found_like g t r at m n a P Q same)))
 
-pub local : (P : Chooses) → Local P
+pub local : (P : Chooses) → LocalUnder P
 local P Q same m n t g a line =
     let like = validate_like P Q same m n t g a line in
     record { answer = like.0; agree = like.1 }
+
+-- Under every policy.
+pub local_always : Local
+local_always P = local P

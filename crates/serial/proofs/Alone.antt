@@ -26,6 +26,7 @@ use Rattle.register.specs.Model.{Model, Chooses, Rooms, with_transactions}
 use Rattle.register.specs.declared.call.Call.{Call}
 use Rattle.register.specs.declared.call.Call.TheVariants as call
 use Rattle.serial.specs.Alone.{NonePending, Fresh, Commits, Alone, caller, key_in, keys_of}
+use Rattle.serial.specs.Promise.{AloneIn}
 use Rattle.serial.specs.Days.{Day, new_day, next, day_after, Meaning}
 use Rattle.serial.specs.Ledger.{History, accepted}
 use Rattle.serial.proofs.Begun.{all_first, Known, known_begun, known_day}
@@ -165,7 +166,7 @@ begun_solo P m h t known lives none =
     (λ new _. inr (begin_solo m h t _ known lives none (new_above m t new)))
 
 -- So it commits.
-pub alone : (P : Chooses) → Meaning P → (cells : Cells) (rooms : Rooms) (calls : List Call) → Alone P cells rooms calls
+pub alone : (P : Chooses) → Meaning P → (cells : Cells) (rooms : Rooms) (calls : List Call) → AloneIn P cells rooms calls
 alone P means cells rooms calls earlier own rest t here none begun only fresh decides =
     let before : Day = day_after P (new_day cells rooms) earlier in
     let known : Known before.model = known_day P (new_day cells rooms) earlier (λ n a. (tt, tt, tt, tt)) in
@@ -174,3 +175,8 @@ alone P means cells rooms calls earlier own rest t here none begun only fresh de
     let start = begun_solo P before.model before.history t known lives none begun in
     decide_commits P t before.model.cells (day_after P (next P before (call.Begin t)) own).model
     (solo_day P means t before.model.cells (next P before (call.Begin t)) own start only fresh) decides
+
+-- On any day, whatever is called after it.
+pub alone_always : Alone
+alone_always P means cells rooms earlier t own =
+    alone P means cells rooms (earlier ++ Begin t ∷ own ++ Decide t ∷ []) earlier own [] t refl

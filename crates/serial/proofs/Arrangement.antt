@@ -7,7 +7,7 @@ use Rattle.std.proofs.lemmas.Bool.{true≢false}
 use Rattle.std.proofs.lemmas.Bool.Decides.{nat_tests}
 use Rattle.std.specs.List.{AllByRecursion}
 use Rattle.serial.specs.Ledger.{Commit}
-use Rattle.serial.specs.Arrangements.{earlier, inserted, in_order}
+use Rattle.serial.specs.Serial.{earlier, inserted, in_order}
 use Rattle.serial.proofs.Member.{In, in_all, all_each}
 
 -- A lower stamp comes before.

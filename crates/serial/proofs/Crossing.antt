@@ -16,7 +16,7 @@ use Rattle.lines.specs.declared.row.Event.TheVariants.{Pass, Fail, Abort, Commit
 use Rattle.lines.specs.declared.row.Row.{Row}
 use Rattle.register.specs.Calls.{settle, step}
 use Rattle.register.specs.Cases.{calls_of, full}
-use Rattle.register.specs.Days.{crossing}
+use Rattle.register.specs.LaterDays.{crossing}
 use Rattle.register.specs.Checks.{any}
 use Rattle.register.specs.Decisions.{cells_after}
 use Rattle.register.specs.Model.{Model, replaced, transaction_of}

@@ -6,7 +6,7 @@ use Rattle.std.proofs.ByRecursion.{All-weaker}
 use Rattle.std.proofs.lemmas.Bool.{and_from, cases_Bool, eq-eqb}
 use Rattle.std.specs.List.{AllByRecursion}
 use Rattle.serial.specs.Ledger.{History, Commit, commits, reads_of, last_put}
-use Rattle.serial.specs.Arrangements.{Values, put_over, after_one, after_all, same_value, finds, all_found, told, earlier, in_order, serial_order}
+use Rattle.serial.specs.Serial.{Values, put_over, after_one, after_all, same_value, finds, all_found, told, earlier, in_order, serial_order}
 use Rattle.serial.proofs.Arrangement.{Sorted, Once, once_same, stamp_earlier, earlier_most, earlier_not}
 use Rattle.serial.proofs.Arrangement.{in_order_sorted, in_order_in, in_in_order}
 use Rattle.serial.proofs.Member.{In, in_all}

@@ -14,8 +14,8 @@ use Rattle.lines.specs.declared.row.State.TheVariants as state
 use Rattle.register.specs.Model.{Model}
 use Rattle.serial.specs.Days.{Day}
 use Rattle.serial.specs.Ledger.{History, Commit, commits, reads_of, last_put, pending, owed}
-use Rattle.serial.specs.Arrangements.{values, serial_order}
-use Rattle.serial.specs.Serial.{Tells}
+use Rattle.serial.specs.Serial.{values, serial_order}
+use Rattle.serial.specs.SerialOrder.{Tells}
 use Rattle.serial.proofs.Fates.{Past, fate}
 use Rattle.serial.proofs.Holding.{Holds, view}
 use Rattle.serial.proofs.Invariant.{UpToWrite, Origin, kept_cell}

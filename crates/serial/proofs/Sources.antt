@@ -11,7 +11,7 @@ use Rattle.store.specs.declared.cell.Cell.{Cell}
 use Rattle.wire.specs.Keys.{ground_of}
 use Rattle.register.specs.Model.{Model}
 use Rattle.serial.specs.Ledger.{History, Commit, commits, last_put}
-use Rattle.serial.specs.Arrangements.{values}
+use Rattle.serial.specs.Serial.{values}
 use Rattle.serial.proofs.Fates.{Fate, Away, Running, Past, Gone, fate, seen, stamp_of}
 use Rattle.serial.proofs.Holding.{Suits, Holds, view}
 use Rattle.serial.proofs.Invariant.{Over, Noted, Tied, Ordered, Distanced, Reader, Writer, Origin}

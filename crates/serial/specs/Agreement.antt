@@ -44,7 +44,7 @@ pub record Alike (P Q : Chooses) (m n : Model) (t g : ℕ) : Type 0 where
   pub agree : Agree g (validate P m t g).0 (validate Q n t g).0
 
 -- Whatever calls each register saw, and whatever its other grounds hold.
-abbrev pub Local : Chooses → Type 0
-Local P =
-    (Q : Chooses) → SamePolicy P Q → (m n : Model) (t g : ℕ) → Agree g m n → transaction_of m t ≡ transaction_of n t
+abbrev pub Local : Type 0
+Local =
+    (P Q : Chooses) → SamePolicy P Q → (m n : Model) (t g : ℕ) → Agree g m n → transaction_of m t ≡ transaction_of n t
     → Alike P Q m n t g

@@ -3,7 +3,7 @@
 --   keys_of h t        the keys of t's accepted reads and prewrites
 --   Fresh cells k      both stamps of the cell at k, if there is one, are below TOP
 --   Alone              the promise
-use Rattle.std.specs.Prelude.{◌≡◌, ℕ, ◌<◌, true, false, cond, ◌&&◌, List, [], ◌∷◌, ◌++◌, Some, None, Option, ◌==◌}
+use Rattle.std.specs.Prelude.{◌≡◌, ℕ, ◌<◌, true, false, cond, ◌&&◌, List, [], ◌∷◌, Some, None, Option, ◌==◌}
 use Rattle.std.specs.List.{flat_map, AllByRecursion}
 use Rattle.store.specs.Stores.{Cells}
 use Rattle.store.specs.declared.cell.Cell.{Cell}
@@ -14,7 +14,7 @@ use Rattle.register.specs.declared.call.Call.{Call}
 use Rattle.register.specs.declared.call.Call.TheVariants.{Begin, Read, Prewrite, Validate, Decide, Withdraw, Settle}
 use Rattle.register.specs.declared.call.Reply.{Reply}
 use Rattle.register.specs.declared.call.Reply.TheVariants.{Committed}
-use Rattle.serial.specs.Days.{Day, new_day, next, day_after}
+use Rattle.serial.specs.Days.{Day, new_day, next, day_after, Meaning}
 use Rattle.serial.specs.Ledger.{History, accepted, pending}
 
 -- No transaction is pending anywhere.
@@ -58,11 +58,11 @@ Fresh cells k = fresh_cell (cells k)
 abbrev pub Commits : Reply → Type 0
 Commits r = (c : Stamp) × (r ≡ Committed c)
 
--- Of some calls on a new register: a transaction that begins while none is pending, and makes the only calls until its decide is
--- accepted, commits if every stamp in its cells, as its begin finds them, is below TOP.
-abbrev pub Alone : Chooses → Cells → Rooms → List Call → Type 0
-Alone P cells rooms calls =
-    (earlier own rest : List Call) (t : ℕ) → calls ≡ earlier ++ Begin t ∷ own ++ Decide t ∷ rest →
+-- On any day, a transaction that begins while none is pending, and makes the only calls until its decide is accepted, commits if
+-- every stamp in its cells, as its begin finds them, is below TOP.
+abbrev pub Alone : Type 0
+Alone =
+    (P : Chooses) → Meaning P → (cells : Cells) (rooms : Rooms) (earlier : List Call) (t : ℕ) (own : List Call) →
     let before : Day = day_after P (new_day cells rooms) earlier in
     let after : Day = day_after P (next P before (Begin t)) own in
     NonePending before.history →

@@ -4,15 +4,15 @@ use Rattle.policy.specs.Ranges.{near_range}
 use Rattle.store.specs.Stores.{Cells}
 use Rattle.register.specs.Calls.{step}
 use Rattle.register.specs.Cases.{cells_at, calls_of, full}
-use Rattle.register.specs.Days.{crossing}
+use Rattle.register.specs.LaterDays.{crossing}
 use Rattle.register.specs.declared.call.Call.{Call}
 use Rattle.register.specs.declared.call.Call.TheVariants.{Begin, Read, Validate, Decide, Settle}
 use Rattle.serial.specs.Agreement.{Alike}
 use Rattle.serial.specs.Alone.{NonePending, Commits}
 use Rattle.serial.specs.Days.{Day, new_day, next, day_after}
 use Rattle.serial.specs.Ledger.{owed}
-use Rattle.serial.specs.Arrangements.{values, told, serial_order}
-use Rattle.serial.specs.Serial.{Tells}
+use Rattle.serial.specs.Serial.{values, told, serial_order}
+use Rattle.serial.specs.SerialOrder.{Tells}
 
 -- The cells that the day begins with.
 abbrev pub morning : Cells

@@ -4,6 +4,7 @@
 --   commits h             who committed, and at which stamp
 --   pending h t g         t touched the ground g, and has neither failed its validation there nor been settled there since
 --   owed h g              a committed transaction is pending at the ground g
+--   nothing_owed gs h     no committed transaction is pending at any of the grounds gs
 use Rattle.std.specs.Prelude.{ℕ, Bool, true, false, cond, not, ◌&&◌, ◌||◌, List, [], ◌∷◌, map, ℤ, Some, None, Option, ◌==◌}
 use Rattle.std.specs.List.{flat_map}
 use Rattle.wire.specs.Keys.{ground_of}
@@ -121,8 +122,7 @@ finishes t g (Decide u) r = false
 finishes t g (Withdraw u) r = false
 finishes t g (Settle u j) r = u == t && (j == g && accepted r)
 
--- From the first accepted read or prewrite at a ground until the validation there fails or the settlement there is accepted. After
--- that every access there is refused, so none makes it pending again.
+-- From the first accepted read or prewrite at a ground until the validation there fails or the settlement there is accepted.
 abbrev pub pending : History → ℕ → ℕ → Bool
 pending [] t g = false
 pending (e ∷ h) t g = not (finishes t g e.0 e.1) && (touches t g e.0 e.1 || pending h t g)
@@ -130,3 +130,7 @@ pending (e ∷ h) t g = not (finishes t g e.0 e.1) && (touches t g e.0 e.1 || pe
 -- A committed transaction is pending at a ground. Where this is false of every ground, no transaction is owed a settlement.
 abbrev pub owed : History → ℕ → Bool
 owed h g = any (λ c. pending h c.number g) (commits h)
+
+-- No committed transaction is pending at one of some grounds.
+abbrev pub nothing_owed : List ℕ → History → Bool
+nothing_owed gs h = not (any (λ c. any (pending h c.number) gs) (commits h))

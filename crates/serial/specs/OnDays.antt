@@ -1,13 +1,14 @@
 -- The serial run of the worked days.
---   DaysAreSerial   on each of them the serial order tells every reader what it was answered, and, where nothing is owed at any
---                     ground, ends with the values that cells were worked out to hold
-use Rattle.std.specs.Prelude.{◌≡◌, ℕ, Bool, true, ◌&&◌, ◌||◌, List, [], ◌∷◌, ◌++◌, reverse}
+--   DaysAreSerial   on each of them the serial order tells every reader what it was answered, and, where nothing is owed, ends
+--                   with the values that the day's cells were worked out to hold
+--   LaterDaysAreSerial   so it does on each of the later days
+use Rattle.std.specs.Prelude.{◌≡◌, ℕ, Bool, true, not, ◌&&◌, ◌||◌, List, [], ◌∷◌, ◌++◌, reverse}
 use Rattle.register.specs.Cases.{Case, Figures, cells_at}
-use Rattle.register.specs.Checks.{any}
 use Rattle.register.specs.Days.{days}
+use Rattle.register.specs.LaterDays.{later_days}
 use Rattle.register.specs.Worked.{worked}
-use Rattle.serial.specs.Ledger.{History, owed}
-use Rattle.serial.specs.Arrangements.{Values, values, after_all, finds, told, serial_order}
+use Rattle.serial.specs.Ledger.{History, nothing_owed}
+use Rattle.serial.specs.Serial.{Values, values, after_all, finds, told, serial_order}
 
 -- The eight grounds.
 abbrev pub grounds : List ℕ
@@ -22,18 +23,22 @@ abbrev pub ends_with : Values → List (ℕ × Figures) → Bool
 ends_with vs [] = true
 ends_with vs (p ∷ ps) = finds (vs p.0) p.1.0 && ends_with vs ps
 
--- The serial order tells the day of a case.
+-- The serial order tells the day.
 abbrev pub tells : Case → Bool
 tells c =
     told (history_of c) (serial_order (history_of c)) (values (cells_at c.cells))
-    && (any (owed (history_of c)) grounds
+    && (not (nothing_owed grounds (history_of c))
     || ends_with (after_all (history_of c) (serial_order (history_of c)) (values (cells_at c.cells))) c.ends)
 
--- It tells each case of a list.
+-- Every worked case, and every longer day.
 abbrev pub all_told : List Case → Bool
 all_told [] = true
 all_told (c ∷ cs) = tells c && all_told cs
 
--- It tells every worked case and every longer day.
+-- The serial order tells each of them.
 abbrev pub DaysAreSerial : Type 0
 DaysAreSerial = all_told (worked ++ days) ≡ true
+
+-- And each of the later days.
+abbrev pub LaterDaysAreSerial : Type 0
+LaterDaysAreSerial = all_told later_days ≡ true

@@ -1,5 +1,7 @@
+ghost use Rattle.serial.specs.Agreement.{Local};
+ghost use Rattle.serial.specs.Alone.{Alone};
 ghost use Rattle.serial.specs.Crossing.{CrossingSays};
-ghost use Rattle.serial.specs.OnDays.{DaysAreSerial};
+ghost use Rattle.serial.specs.OnDays.{DaysAreSerial, LaterDaysAreSerial};
 ghost use Rattle.serial.specs.Promise.{Promise};
 
 // Whatever calls are made on a register that is new: committed transactions are serial in the order of (stamp, number), a
@@ -17,9 +19,24 @@ pub fn promise_speaks() -> u8
     0
 }
 
+// A ground's validation depends on that ground alone.
+pub fn validation_is_local() -> u8
+    ensures { Local }
+{
+    0
+}
+
 // On each worked day the serial order tells every reader what it was answered.
 pub fn days_are_serial() -> u8
-    ensures { DaysAreSerial }
+    ensures days { DaysAreSerial }
+    ensures later { LaterDaysAreSerial }
+{
+    0
+}
+
+// A transaction that meets nobody commits while stamps last.
+pub fn alone_commits() -> u8
+    ensures { Alone }
 {
     0
 }

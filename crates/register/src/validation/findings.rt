@@ -4,7 +4,8 @@ ghost use Rattle.book.specs.Books.{held};
 ghost use Rattle.lines.specs.LineKeys.{row_key, same_row};
 ghost use Rattle.lines.specs.Rows.{Bounded};
 ghost use Rattle.register.specs.Findings.{unfound, with_effect, noted, FitsEffect, Marked};
-ghost use Rattle.register.specs.Validation.{raised_above, lowered_below, note_floors, note_ceilings};
+ghost use Rattle.register.specs.Validation.{raised_above, lowered_below};
+ghost use Rattle.register.specs.Among.{note_floors, note_ceilings};
 
 use crate::validation::bounds::{lower, raise};
 use crate::validation::effects::located_effect;

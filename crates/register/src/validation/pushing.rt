@@ -3,7 +3,7 @@ ghost use Rattle.std.specs.List.{AllByRecursion};
 ghost use Rattle.book.specs.Books.{held, Stays};
 ghost use Rattle.lines.specs.Rows.{Bounded};
 ghost use Rattle.register.specs.Findings.{MadeWay};
-ghost use Rattle.register.specs.Validation.{pushed_by};
+ghost use Rattle.register.specs.Among.{pushed_by};
 
 use crate::validation::bounds::{lower_if, raise_if};
 use crate::validation::findings::Findings;

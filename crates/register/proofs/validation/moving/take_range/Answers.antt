@@ -4,7 +4,8 @@ use Rattle.book.specs.Books.{held}
 use Rattle.lines.specs.LineKeys.{row_key}
 use Rattle.lines.specs.Rows.{Limits}
 use Rattle.lines.specs.declared.row.Event.TheVariants.{Pass}
-use Rattle.register.specs.Validation.{is_before, is_after, joins_among, pushed_among, row_moved}
+use Rattle.register.specs.Validation.{is_before, is_after, row_moved}
+use Rattle.register.specs.Among.{joins_among, pushed_among}
 use Rattle.register.proofs.Pushing.{stays_on, pushed_keys}
 use Rattle.register.proofs.RowBook.{single_by_keys}
 use Rattle.register.proofs.validation.moving.take_range.Goals as goal

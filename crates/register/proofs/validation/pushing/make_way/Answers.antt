@@ -6,7 +6,8 @@ use Rattle.std.proofs.lemmas.Int.{ints, to_z-of_z}
 use Rattle.std.specs.List.{AllByRecursion}
 use Rattle.book.specs.Books.{held, Stays}
 use Rattle.lines.specs.Rows.{Bounded}
-use Rattle.register.specs.Validation.{is_before, is_after, joins_among, pushed_by, pushed_among}
+use Rattle.register.specs.Validation.{is_before, is_after}
+use Rattle.register.specs.Among.{joins_among, pushed_by, pushed_among}
 use Rattle.register.proofs.Gathering.{no_row}
 use Rattle.register.proofs.Pushing.{set_held, stays_on, push_more, push_all, nth_holds, pushed_bounded}
 use Rattle.register.proofs.validation.pushing.make_way.Goals as goal

@@ -4,7 +4,7 @@ use Rattle.book.specs.Books.{held, Stays}
 use Rattle.lines.specs.Rows.{Bounded}
 use Rattle.lines.specs.declared.note.Note.{Note}
 use Rattle.register.specs.Findings.{Marked}
-use Rattle.register.specs.Validation.{pushed_among}
+use Rattle.register.specs.Among.{pushed_among}
 use Rattle.register.proofs.validation.pushing.make_way.Given as goal
 
 -- The rows passed have made way, the others are as they were.

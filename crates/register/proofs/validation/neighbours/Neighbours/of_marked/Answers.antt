@@ -1,7 +1,8 @@
 use Rattle.std.proofs.Common.{false, cond, [], ◌∷◌, ◌++◌, get_or, take, ap, ◌∙◌, arith, w32, SFits, rules}
 use Rattle.std.proofs.lemmas.Int.{to_z-of_z}
 use Rattle.register.specs.Findings.{gathered}
-use Rattle.register.specs.Validation.{is_before, is_after, joins_among}
+use Rattle.register.specs.Validation.{is_before, is_after}
+use Rattle.register.specs.Among.{joins_among}
 use Rattle.register.proofs.Gathering.{no_row, gather_more, gather_all}
 use Rattle.register.proofs.validation.neighbours.Neighbours.of_marked.Goals as goal
 

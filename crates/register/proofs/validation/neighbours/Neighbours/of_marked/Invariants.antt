@@ -1,7 +1,8 @@
 use Rattle.std.proofs.Common.{◌≡◌, ℕ, ◌≤◌, List, map, take, filter}
 use Rattle.lines.specs.declared.note.Note.{Note}
 use Rattle.register.specs.Findings.{gathered, Marked}
-use Rattle.register.specs.Validation.{joins_among, is_before, is_after}
+use Rattle.register.specs.Among.{joins_among}
+use Rattle.register.specs.Validation.{is_before, is_after}
 use Rattle.register.proofs.validation.neighbours.Neighbours.of_marked.Given as goal
 
 -- The bounds so far are those of the marked rows passed.

@@ -1,0 +1,55 @@
+-- More longer days: one that crosses two grounds, a lock that outlasts a withdrawal, and a stamp that was seen; the replies are
+-- worked out by hand.
+use Rattle.std.specs.Prelude.{List, [], ◌∷◌, pos, negsuc}
+use Rattle.policy.specs.Ranges.{whole_range, near_range}
+use Rattle.wire.specs.declared.refusal.Refusal.TheVariants.{AlreadyDecided, AlreadySettled}
+use Rattle.register.specs.declared.call.Call.TheVariants.{Begin, Read, Prewrite, Validate, Decide, Withdraw, Settle}
+use Rattle.register.specs.declared.call.Reply.TheVariants.{Done, Aborted, Refused}
+use Rattle.register.specs.Cases.{Case, cell, full, top, value, range, commit}
+
+-- Key 0 is at ground 0, key 8,192 at ground 1. Transactions 1 and 2 write both; between them 3 reads what 1 wrote at ground 0. At
+-- ground 1 transaction 1 is settled late, after 3 has read, committed and been settled.
+abbrev pub crossing : Case
+crossing = record {
+  cells = (0, cell (pos 0) 0 0) ∷ (8192, cell (pos 0) 0 0) ∷ [];
+  rooms = full;
+  policy = near_range;
+  script =
+      (Begin 1, Done) ∷ (Begin 2, Done) ∷ (Prewrite 1 0 (pos 10), Done) ∷ (Prewrite 1 8192 (negsuc 10), Done) ∷
+      (Validate 1 0, range 1 top) ∷ (Validate 1 1, range 1 top) ∷ (Decide 1, commit 1) ∷ (Settle 1 0, Done) ∷ (Begin 3, Done) ∷
+      (Read 3 0, value (pos 10) 1) ∷ (Validate 3 0, range 2 top) ∷ (Decide 3, commit 2) ∷ (Settle 3 0, Done) ∷
+      (Prewrite 2 0 (pos 20), Done) ∷ (Prewrite 2 8192 (pos 21), Done) ∷ (Settle 1 1, Done) ∷ (Validate 2 0, range 3 top) ∷
+      (Validate 2 1, range 2 top) ∷ (Decide 2, commit 3) ∷ (Settle 2 0, Done) ∷ (Settle 2 1, Done) ∷ [];
+  ends = (0, ((pos 20), 3, 2)) ∷ (8192, ((pos 21), 3, 0)) ∷ [];
+}
+
+-- A withdrawn_beside transaction keeps its lock until it is settled, so 2 takes a part of the range beside it; then it is ignored.
+abbrev pub withdrawn_beside : Case
+withdrawn_beside = record {
+  cells = (0, cell (pos 0) 0 0) ∷ [];
+  rooms = full;
+  policy = near_range;
+  script =
+      (Begin 1, Done) ∷ (Prewrite 1 0 (pos 5), Done) ∷ (Withdraw 1, Aborted) ∷
+      (Validate 1 0, Refused AlreadyDecided) ∷ (Begin 2, Done) ∷ (Prewrite 2 0 (pos 6), Done) ∷
+      (Validate 2 0, range 1 1024) ∷ (Settle 1 0, Done) ∷ (Settle 1 0, Refused AlreadySettled) ∷ (Decide 2, commit 1) ∷
+      (Settle 2 0, Done) ∷ (Begin 4, Done) ∷ (Prewrite 4 0 (pos 7), Done) ∷ (Validate 4 0, range 2 top) ∷ [];
+  ends = (0, ((pos 6), 1, 0)) ∷ [];
+}
+
+-- A read is held to the stamp that it saw, though the cell has a larger one when it validates.
+abbrev pub seen_then : Case
+seen_then = record {
+  cells = (0, cell (pos 9) 0 80) ∷ [];
+  rooms = full;
+  policy = whole_range;
+  script =
+      (Begin 1, Done) ∷ (Begin 2, Done) ∷ (Prewrite 1 0 (pos 3), Done) ∷ (Validate 1 0, range 81 top) ∷
+      (Read 2 0, value (pos 9) 0) ∷ (Decide 1, commit 81) ∷ (Settle 1 0, Done) ∷ (Validate 2 0, range 1 80) ∷
+      (Decide 2, commit 1) ∷ (Settle 2 0, Done) ∷ [];
+  ends = (0, ((pos 3), 81, 80)) ∷ [];
+}
+
+-- All of them.
+abbrev pub later_days : List Case
+later_days = crossing ∷ withdrawn_beside ∷ seen_then ∷ []
