@@ -2,17 +2,16 @@
 --   read_again                 a second read answers what the first did
 --   read_full, prewrite_full   a first read or prewrite without room is refused
 --   sound_needed               rows with the one that an access needs
-use Rattle.std.proofs.Common.{◌≡◌, ℕ, Bool, true, false, cond, ◌&&◌, List, [], ◌++◌, length, ℤ, is_some, Some, None, Ok, Err, Option, Result, sym, refl, subst, append-nil}
+use Rattle.std.proofs.Common.{◌≡◌, ℕ, Bool, true, false, ◌&&◌, List, ◌++◌, length, ℤ, is_some, Some, None, Ok, Err, Option, sym, refl, subst, append-nil}
 use Rattle.std.proofs.lemmas.Bool.{true≢false}
 use Rattle.store.specs.declared.cell.Cell.{Cell}
 use Rattle.wire.specs.Keys.{ground_of}
-use Rattle.wire.specs.declared.refusal.Refusal.{Refusal}
 use Rattle.wire.specs.declared.refusal.Refusal.TheVariants.{NoRoom}
 use Rattle.lines.specs.Locks.{row_of}
 use Rattle.lines.specs.declared.access.ReadLine.{ReadLine}
 use Rattle.lines.specs.declared.row.Row.{Row}
 use Rattle.register.specs.Calls.{read, prewrite}
-use Rattle.register.specs.Checks.{has_room, open_now, cell_here, unless, unless_past, unwritten}
+use Rattle.register.specs.Checks.{has_room, open_now, cell_here, unless_past, unwritten}
 use Rattle.register.specs.Model.{Model, read_of, write_of}
 use Rattle.register.specs.Noting.{row_needed, new_rows, notes_of_read, notes_of_prewrite}
 use Rattle.register.specs.NotesByLines.{rows_needed}

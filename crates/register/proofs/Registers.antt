@@ -5,8 +5,7 @@
 use Rattle.std.proofs.Common.{◌≡◌, ◌≤◌, Ok, Err, Result}
 use mathlib.Core.HLevel.{is_prop→PathP}
 use mathlib.Core.Logic.{∥∥₁_prop}
-use native.Mathlib.Bridge.{le_prop}
-use denote.Struct.Props.{three_prop}
+use Rattle.std.proofs.Props.{props}
 use Rattle.book.specs.Books.{held, room, Added}
 use Rattle.book.specs.declared.book.Book.{Book}
 use Rattle.store.specs.Stores.{Refuses}
@@ -36,7 +35,7 @@ same_register r s e i = record {
   sound = is_prop→PathP (λ j. ∥ SoundRows (held (e.rows j)) ∥₁) (λ j. ∥∥₁_prop) r.sound s.sound i;
   limits =
       is_prop→PathP (λ j. (room (e.rows j) ≤ 256) × (room (e.reads j) ≤ 512) × (room (e.writes j) ≤ 512))
-      (λ j. three_prop le_prop le_prop le_prop) r.limits s.limits i;
+      (λ j. hlevel props) r.limits s.limits i;
 }
 
 pub refused_so : {A : Type 0} {P Q : Type 0} (r : Result A Refusal) → (P → Q) → Refuses r P → Refuses r Q

@@ -6,10 +6,10 @@
 --   sound_added       of rows and the first row of a transaction at a ground
 --   sound_replaced    of rows one of which is replaced by another of its key
 --   sound_mapped      of rows that are changed and keep their keys
-use Rattle.std.proofs.Common.{◌≡◌, ℕ, ◌≤◌, min, Bool, true, false, cond, eqb, List, [], ◌∷◌, ◌++◌, map, length, IfSome, Some, None, sym, refl, ap, ◌∙◌, subst, arith}
+use Rattle.std.proofs.Common.{◌≡◌, ℕ, ◌≤◌, min, Bool, true, false, cond, eqb, ℤ, ◌≤ℤ◌, List, [], ◌∷◌, ◌++◌, map, length, IfSome, Some, None, sym, refl, ap, ◌∙◌, subst, arith}
 use mathlib.Core.HLevel.{×_prop}
 use mathlib.Core.Logic.{∥∥₁_elim}
-use denote.Struct.Props.{≤ℤ_prop}
+use Rattle.std.proofs.Props.{props}
 use Rattle.std.proofs.ByRecursion.{All-push}
 use Rattle.std.proofs.lemmas.Map.Keys.{IsDistinct-prop}
 use Rattle.std.proofs.lemmas.List.{length-take, map_push}
@@ -26,13 +26,16 @@ use Rattle.lines.specs.declared.row.RowKey.{RowKey}
 use Rattle.register.specs.Model.{replaced}
 use Rattle.register.specs.RowBook.{SoundRows}
 
--- That bounds are within their limits has one proof.
+-- A comparison of bounds has one proof, and so has that bounds are within their limits.
+same_proof : {a b : ℤ} → IsProp (a ≤ℤ b)
+same_proof = hlevel props
+
 limits_prop : (r : Row) → IsProp (Bounded r)
 limits_prop r p q i = record {
-  lower_least = ≤ℤ_prop p.lower_least q.lower_least i;
-  lower_most = ≤ℤ_prop p.lower_most q.lower_most i;
-  upper_least = ≤ℤ_prop p.upper_least q.upper_least i;
-  upper_most = ≤ℤ_prop p.upper_most q.upper_most i;
+  lower_least = same_proof p.lower_least q.lower_least i;
+  lower_most = same_proof p.lower_most q.lower_most i;
+  upper_least = same_proof p.upper_least q.upper_least i;
+  upper_most = same_proof p.upper_most q.upper_most i;
 }
 
 -- That all bounds are has one proof.

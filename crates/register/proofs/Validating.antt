@@ -3,11 +3,10 @@
 --   validate_fails, validate_passes  what a validation comes to where no stamp is left, and where one is
 --   with_rows_is                     a register with other rows in a book of the same room
 --   taken_limits                     the range that was taken is within the limits of a row
-use Rattle.std.proofs.Common.{◌≡◌, ℕ, Bool, true, false, cond, eqb, List, [], ◌∷◌, ℤ, pos, negsuc, ◌≤ℤ◌, Some, None, Ok, Err, Option, Result, sym, refl, ap, ◌∙◌, arith}
+use Rattle.std.proofs.Common.{◌≡◌, ℕ, Bool, true, false, cond, eqb, List, [], ◌∷◌, ℤ, Some, None, Ok, sym, refl, ap, ◌∙◌, arith}
 use lib.Signed.{lt_z}
 use Rattle.std.proofs.lemmas.Int.{ints}
 use Rattle.std.proofs.lemmas.Bool.{and_parts, eqb-true}
-use Rattle.wire.specs.declared.refusal.Refusal.{Refusal}
 use Rattle.lines.specs.LineKeys.{row_key, same_row}
 use Rattle.lines.specs.Locks.{row_of}
 use Rattle.lines.specs.Rows.{Bounded, Limits}

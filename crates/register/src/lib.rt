@@ -1,4 +1,5 @@
 // The register: the calls that are made on it, and what they answer.
+#![tactic(auto)]
 
 pub mod call;
 pub mod cases;

@@ -179,4 +179,4 @@ alone P means cells rooms calls earlier own rest t here none begun only fresh de
 -- On any day, whatever is called after it.
 pub alone_always : Alone
 alone_always P means cells rooms earlier t own =
-    alone P means cells rooms (earlier ++ Begin t ∷ own ++ Decide t ∷ []) earlier own [] t refl
+    alone P means cells rooms (earlier ++ call.Begin t ∷ own ++ call.Decide t ∷ []) earlier own [] t refl

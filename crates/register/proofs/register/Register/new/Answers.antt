@@ -5,10 +5,10 @@ use Rattle.register.proofs.RowBook.{no_rows_sound}
 use Rattle.register.proofs.register.Register.new.Goals as goal
 
 -- There is no row yet, and no book has more room than its limit.
-pub invariant-of-result : goal.invariant-of-result
-invariant-of-result g c =
+pub invariant_of-result : goal.invariant_of-result
+invariant_of-result g c =
     let sound : List Row → Type 0 = λ rs. ∥ SoundRows rs ∥₁ in
     let rows = c.new-2.ensures.room in
     let reads = c.new-3.ensures.room in
     let writes = c.new-4.ensures.room in
-    (subst sound (sym c.new-2.ensures.empty) ∣ no_rows_sound ∣₁, ((omega arith, omega arith, omega arith), tt))
+    record { sound = subst sound (sym c.new-2.ensures.empty) ∣ no_rows_sound ∣₁; limits = (omega arith, omega arith, omega arith) }

@@ -1,4 +1,4 @@
-use Rattle.std.proofs.Common.{◌≡◌, ◌≤◌, false, ◌&&◌, List, ◌++◌, None, Ok, sym, refl, ap, ◌∙◌, subst, ap₂, w16, SFits, rules}
+use Rattle.std.proofs.Common.{◌≡◌, ◌≤◌, ◌&&◌, List, ◌++◌, None, Ok, sym, refl, ap, ◌∙◌, subst, ap₂, w16, SFits, rules}
 use Rattle.std.proofs.lemmas.Int.{to_z-of_z}
 use Rattle.book.specs.Books.{held}
 use Rattle.lines.specs.declared.note.Note.{Note}
@@ -51,14 +51,15 @@ returns-then-not-fit g c =
       store = refl;
     }
 
-pub invariant-of-self-2 : goal.invariant-of-self-2
-invariant-of-self-2 g c =
+pub invariant_of-self-2 : goal.invariant_of-self-2
+invariant_of-self-2 g c =
     let self = c.args.self.now in
     let rows = c.add_with.ensures.rows in
     let lines = rows.lines ∙ ap (λ rs. held self.rows ++ rs) c.of_read-additions.ensures.row in
     let sound = subst SoundRows (sym lines)
     (sound_needed (held self.rows) c.args.transaction c.args.key (rows_sound (held self.rows) self.sound)) in
-    let reads = c.add_with.ensures.lines.stays.room in (
-      ∣ sound ∣₁,
-      ((subst (λ n. n ≤ 256) (sym rows.stays.room) self.limits.0, subst (λ n. n ≤ 512) (sym reads) self.limits.1, self.limits.2), tt),
-    )
+    let reads = c.add_with.ensures.lines.stays.room in
+    record {
+      sound = ∣ sound ∣₁;
+      limits = (subst (λ n. n ≤ 256) (sym rows.stays.room) self.limits.0, subst (λ n. n ≤ 512) (sym reads) self.limits.1, self.limits.2);
+    }

@@ -1,4 +1,4 @@
-use Rattle.std.proofs.Common.{◌≡◌, ℕ, ◌≤◌, true, false, map, ℤ, ◌≤ℤ◌, Some, None, Ok, sym, refl, ap, ◌∙◌, subst, ap₂, arith, w32, SFits, to_z, of_z, rules}
+use Rattle.std.proofs.Common.{◌≡◌, ℕ, ◌≤◌, true, false, map, ℤ, ◌≤ℤ◌, Some, None, Ok, sym, ap, ◌∙◌, subst, ap₂, arith, w32, SFits, to_z, of_z, rules}
 use lib.Signed.{lt_z}
 use Rattle.std.proofs.lemmas.Int.{ints, to_z-of_z}
 use Rattle.book.specs.Books.{held}
@@ -20,11 +20,11 @@ move_row-requires g c =
     let self = c.args.self.now in
     record { bounded = c.in-Some.ensures.bounded; fits = tt; sound = rows_sound (held self.rows) self.sound }
 
-pub invariant-of-self : goal.invariant-of-self
-invariant-of-self g c =
+pub invariant_of-self : goal.invariant_of-self
+invariant_of-self g c =
     let self = c.args.self.now in
     let room = c.move_row.ensures.stays.room in
-    (∣ c.move_row.ensures.sound ∣₁, ((subst (λ n. n ≤ 256) (sym room) self.limits.0, self.limits.1, self.limits.2), tt))
+    record { sound = ∣ c.move_row.ensures.sound ∣₁; limits = (subst (λ n. n ≤ 256) (sym room) self.limits.0, self.limits.1, self.limits.2) }
 
 pub returns-then-findings : goal.returns-then-findings
 returns-then-findings g c =
@@ -82,11 +82,11 @@ take_range-requires g c =
       marked = (m.notes, (t, (at, c.findings-findings.ensures.marked)));
     }
 
-pub invariant-of-self-2 : goal.invariant-of-self-2
-invariant-of-self-2 g c =
+pub invariant_of-self-2 : goal.invariant_of-self-2
+invariant_of-self-2 g c =
     let self = c.args.self.now in
     let room = c.take_range.ensures.stays.room in
-    (∣ c.take_range.ensures.sound ∣₁, ((subst (λ n. n ≤ 256) (sym room) self.limits.0, self.limits.1, self.limits.2), tt))
+    record { sound = ∣ c.take_range.ensures.sound ∣₁; limits = (subst (λ n. n ≤ 256) (sym room) self.limits.0, self.limits.1, self.limits.2) }
 
 pub returns : goal.returns
 returns g c =
