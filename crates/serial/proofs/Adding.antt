@@ -1,7 +1,7 @@
 -- A first read of a key, and a prewrite, keep the invariant, where the notes say whom they met.
 --   saw      one transaction saw one more cell
 --   wrote    one transaction put a value into one more cell, or another value into one
-use Rattle.std.proofs.Common.{◌≡◌, ℕ, true, false, ◌&&◌, eqb, ◌⊎◌, ℤ, pos, Some, None, Option, sym, refl, ◌∙◌, subst, inl, inr, ⊎_elim}
+use Rattle.std.proofs.Common.{◌≡◌, ℕ, true, false, ◌&&◌, eqb, ℤ, pos, Some, None, Option, sym, refl, ◌∙◌, subst, inl, inr, ⊎_elim}
 use Rattle.std.proofs.lemmas.Bool.{and_left}
 use Rattle.store.specs.Stores.{Cells}
 use Rattle.store.specs.declared.cell.Cell.{Cell}

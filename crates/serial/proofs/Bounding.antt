@@ -3,7 +3,7 @@
 --   above_seen, above_cell         the lower bound is above what the transaction's reads saw, and above the stamps of what it writes
 --   below_later                    the upper bound is below a row that passed and that a note puts after the transaction
 --   above_earlier, above_apart     the lower bound is above a row that passed and that a note puts before the transaction, or apart from it
-use Rattle.std.proofs.Common.{◌≡◌, ℕ, true, false, eqb, ◌⊎◌, List, [], ◌∷◌, ℤ, pos, ◌≤ℤ◌, ◌<ℤ◌, Some, sym, refl, ap, ◌∙◌, subst, inl, inr, arith}
+use Rattle.std.proofs.Common.{◌≡◌, ℕ, true, false, eqb, ◌⊎◌, List, [], ◌∷◌, ℤ, pos, ◌<ℤ◌, Some, sym, refl, ap, ◌∙◌, subst, inl, inr, arith}
 use Rattle.std.proofs.lemmas.Int.{ints, clamps}
 use Rattle.std.proofs.lemmas.Bool.{and_parts, and_from, eqb-true, eq-eqb, or_left, or_right}
 use Rattle.std.specs.List.{flat_map}

@@ -25,7 +25,7 @@ use Rattle.serial.proofs.Invariant.{
   Sound,
 }
 use Rattle.serial.proofs.Steady.{noted_more, tied_more}
-use Rattle.serial.proofs.Turning.{eqb_turned, turned}
+use Rattle.serial.proofs.Turning.{turned}
 use Rattle.serial.proofs.Turns.{Unsettled, Only, grown_same, origin_same, cell_same}
 
 -- A key that was written has a cell.

@@ -20,7 +20,7 @@ use Rattle.register.specs.declared.call.Call.TheVariants as call
 use Rattle.register.specs.declared.call.Reply.TheVariants as reply
 use Rattle.serial.specs.Ledger.{History}
 use Rattle.serial.proofs.Deciding.{committed_within, not_running}
-use Rattle.serial.proofs.Fates.{Running, fate, stamp_of}
+use Rattle.serial.proofs.Fates.{fate, stamp_of}
 use Rattle.serial.proofs.Holding.{view, Suits, Stamped}
 use Rattle.serial.proofs.Invariant.{Sound}
 use Rattle.serial.proofs.Linked.{Linked, fate_by, row_fate, decided_stamp, line_stamp}

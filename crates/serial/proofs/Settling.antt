@@ -1,5 +1,5 @@
 -- A settlement of a committed transaction keeps the invariant: its range becomes its stamp, and its cells get what it read and wrote.
-use Rattle.std.proofs.Common.{◌≡◌, ℕ, ◌≤◌, true, false, ◌&&◌, eqb, ◌⊎◌, ℤ, pos, ◌≤ℤ◌, Some, None, Option, sym, refl, ◌∙◌, subst, inl, inr, arith}
+use Rattle.std.proofs.Common.{◌≡◌, ℕ, true, false, ◌&&◌, eqb, ◌⊎◌, ℤ, pos, ◌≤ℤ◌, Some, None, Option, sym, refl, ◌∙◌, subst, inl, inr, arith}
 use Rattle.std.proofs.lemmas.Int.{ints}
 use Rattle.std.proofs.lemmas.Bool.{false≢true}
 use Rattle.store.specs.Stores.{Cells}
@@ -25,7 +25,7 @@ use Rattle.serial.proofs.Invariant.{
   Sound,
 }
 use Rattle.serial.proofs.Steady.{Grown, More, noted_more, tied_more}
-use Rattle.serial.proofs.Turning.{eqb_turned, turned}
+use Rattle.serial.proofs.Turning.{turned}
 use Rattle.serial.proofs.Turns.{Unsettled, origin_kept}
 
 -- A cell keeps its value and write stamp, or has those of the transaction.

@@ -24,7 +24,7 @@ use Rattle.lines.specs.declared.access.WriteLine.{WriteLine}
 use Rattle.lines.specs.declared.row.Event.{Event}
 use Rattle.lines.specs.declared.row.Event.TheVariants.{Pass}
 use Rattle.lines.specs.declared.row.Row.{Row}
-use Rattle.lines.specs.declared.row.State.TheVariants.{Running, Committed, Aborted}
+use Rattle.lines.specs.declared.row.State.TheVariants.{Running}
 use Rattle.lines.specs.declared.transaction.Decision.{Decision}
 use Rattle.lines.specs.declared.transaction.Decision.TheVariants as decision
 use Rattle.lines.specs.declared.transaction.Transaction.{Transaction}

@@ -11,7 +11,7 @@ use Rattle.lines.specs.declared.transaction.Decision.{Decision}
 use Rattle.lines.specs.declared.transaction.Decision.TheVariants as decision
 use Rattle.register.specs.Calls.{read, prewrite, validate, decide, withdraw, settle, step, done, value_reply, verdict_reply, decide_reply, decision_reply, withdraw_reply}
 use Rattle.register.specs.Checks.{open_now, none_running, unless_past}
-use Rattle.register.specs.Decisions.{decision_by, settled}
+use Rattle.register.specs.Decisions.{decision_by}
 use Rattle.register.specs.Model.{Model, Chooses, Rooms, new, transaction_of}
 use Rattle.register.specs.declared.call.Call.{Call}
 use Rattle.register.specs.declared.call.Call.TheVariants as call

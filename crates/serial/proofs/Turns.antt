@@ -1,5 +1,5 @@
 -- The turns that a fate takes, each of which keeps the invariant: nothing, a first read or prewrite at a ground, and an end without a stamp.
-use Rattle.std.proofs.Common.{◌≡◌, ℕ, true, false, ◌&&◌, eqb, ◌⊎◌, ℤ, pos, Some, None, Option, sym, refl, ◌∙◌, subst, inl, inr, ⊎_elim}
+use Rattle.std.proofs.Common.{◌≡◌, ℕ, true, false, ◌&&◌, eqb, ℤ, pos, Some, None, Option, sym, refl, ◌∙◌, subst, inl, inr, ⊎_elim}
 use Rattle.store.specs.Stores.{Cells}
 use Rattle.store.specs.declared.cell.Cell.{Cell}
 use Rattle.wire.specs.Keys.{ground_of}
@@ -19,7 +19,7 @@ use Rattle.serial.proofs.Invariant.{
 }
 use Rattle.serial.proofs.RowKeys.{same_or_not}
 use Rattle.serial.proofs.Steady.{Grown, More, grown_self, noted_more, tied_more, ordered_grown, distanced_grown}
-use Rattle.serial.proofs.Turning.{Turn, eqb_turned, turned}
+use Rattle.serial.proofs.Turning.{Turn, turned}
 
 -- A fate that is not settled with a stamp.
 abbrev pub Unsettled : Fate → Type 0

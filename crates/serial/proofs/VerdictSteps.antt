@@ -24,7 +24,7 @@ use Rattle.serial.specs.Days.{Meaning}
 use Rattle.serial.specs.Ledger.{History}
 use Rattle.serial.proofs.AccessSteps.{at_key, off_key, at_key_too, off_key_too}
 use Rattle.serial.proofs.Bounding.{above_seen, above_cell, below_later, above_earlier, above_apart}
-use Rattle.serial.proofs.Fates.{Running, Past, Gone, settled_at, fate, seen, stamp_of}
+use Rattle.serial.proofs.Fates.{Running, Past, Gone, settled_at, fate, stamp_of}
 use Rattle.serial.proofs.Holding.{view}
 use Rattle.serial.proofs.Invariant.{Parties, Sound}
 use Rattle.serial.proofs.Linked.{Linked, row_fate}
