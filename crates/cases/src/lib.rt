@@ -1,4 +1,5 @@
 // Worked examples of the other crates, run as tests. They stand apart so that a crate is not proved again for them.
+#![tactic(auto)]
 
 #[cfg(test)]
 mod books;

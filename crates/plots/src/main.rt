@@ -1,4 +1,5 @@
 // Tells where each grave of a sparse store image lies: plots < IMAGE
+#![tactic(auto)]
 
 use anyhow::anyhow;
 use std::io;

@@ -1,4 +1,5 @@
 // What is told of a plot: where it lies from the chapel door, its holder and its status.
+#![tactic(auto)]
 
 pub mod image;
 pub mod listing;

@@ -1,4 +1,5 @@
 // The words of the register: keys, values, stamps, refusals, store words, messages, answers, and words from bytes.
+#![tactic(auto)]
 
 pub mod answer;
 pub mod bytes;
