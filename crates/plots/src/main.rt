@@ -1,9 +1,9 @@
 // Tells where each grave of a sparse store image lies: plots < IMAGE
 #![tactic(auto)]
 
-use anyhow::anyhow;
 use std::io;
 use std::io::Read;
+use std::process::ExitCode;
 use store::fault::Fault;
 use store::memory::sparse::Sparse;
 use store::store::Store;
@@ -92,10 +92,10 @@ fn run(rt: &HostRuntime) -> anyhow::Result<bool> {
     Ok(true)
 }
 
-fn main(rt: HostRuntime) -> anyhow::Result<()> {
+fn main(rt: HostRuntime) -> anyhow::Result<ExitCode> {
     if run(&rt)? {
-        Ok(())
+        Ok(ExitCode::SUCCESS)
     } else {
-        Err(anyhow!("bad image"))
+        Ok(ExitCode::FAILURE)
     }
 }
