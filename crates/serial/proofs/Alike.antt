@@ -117,11 +117,11 @@ validate_like P Q same m n t g a line =
     let at = (and_parts (eqb r.transaction t) (eqb r.ground g) key).1 in
     after_like g m n a (running r) (running r) refl _ _ (λ _ _. found_like g t r at m n a P Q same)))
 
-pub local : (P : Chooses) → LocalUnder P
-local P Q same m n t g a line =
+pub local_under : (P : Chooses) → LocalUnder P
+local_under P Q same m n t g a line =
     let like = validate_like P Q same m n t g a line in
     record { answer = like.0; agree = like.1 }
 
 -- Under every policy.
-pub local_always : Local
-local_always P = local P
+pub local : Local
+local P = local_under P

@@ -166,8 +166,8 @@ begun_solo P m h t known lives none =
     (λ new _. inr (begin_solo m h t _ known lives none (new_above m t new)))
 
 -- So it commits.
-pub alone : (P : Chooses) → Meaning P → (cells : Cells) (rooms : Rooms) (calls : List Call) → AloneIn P cells rooms calls
-alone P means cells rooms calls earlier own rest t here none begun only fresh decides =
+pub alone_in : (P : Chooses) → Meaning P → (cells : Cells) (rooms : Rooms) (calls : List Call) → AloneIn P cells rooms calls
+alone_in P means cells rooms calls earlier own rest t here none begun only fresh decides =
     let before : Day = day_after P (new_day cells rooms) earlier in
     let known : Known before.model = known_day P (new_day cells rooms) earlier (λ n a. (tt, tt, tt, tt)) in
     let lives : LivePending before.model.rows before.history =
@@ -177,6 +177,6 @@ alone P means cells rooms calls earlier own rest t here none begun only fresh de
     (solo_day P means t before.model.cells (next P before (call.Begin t)) own start only fresh) decides
 
 -- On any day, whatever is called after it.
-pub alone_always : Alone
-alone_always P means cells rooms earlier t own =
-    alone P means cells rooms (earlier ++ call.Begin t ∷ own ++ call.Decide t ∷ []) earlier own [] t refl
+pub alone : Alone
+alone P means cells rooms earlier t own =
+    alone_in P means cells rooms (earlier ++ call.Begin t ∷ own ++ call.Decide t ∷ []) earlier own [] t refl

@@ -5,8 +5,8 @@ use Rattle.register.specs.Model.{Chooses}
 use Rattle.register.specs.declared.call.Call.{Call}
 use Rattle.serial.specs.Days.{Day, new_day, next, day_after, Meaning}
 use Rattle.serial.specs.Promise.{Promise}
-use Rattle.serial.proofs.Alike.{local}
-use Rattle.serial.proofs.Alone.{alone}
+use Rattle.serial.proofs.Alike.{local_under}
+use Rattle.serial.proofs.Alone.{alone_in}
 use Rattle.serial.proofs.Holding.{Holds}
 use Rattle.serial.proofs.SerialLaw.{law}
 use Rattle.serial.proofs.Steps.{holds_new, holds_step}
@@ -20,6 +20,6 @@ holds_day P means first d (c ∷ cs) h = holds_day P means first (next P d c) cs
 pub promise : Promise
 promise P means cells rooms calls = record {
   serial = law cells (day_after P (new_day cells rooms) calls) (holds_day P means cells (new_day cells rooms) calls (holds_new cells rooms));
-  alone = alone P means cells rooms calls;
-  local = local P;
+  alone = alone_in P means cells rooms calls;
+  local = local_under P;
 }

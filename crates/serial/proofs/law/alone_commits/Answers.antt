@@ -1,5 +1,5 @@
-use Rattle.serial.proofs.Alone.{alone_always}
+use Rattle.serial.proofs.Alone.{alone}
 use Rattle.serial.proofs.law.alone_commits.Goals as goal
 
 pub returns : goal.returns
-returns c = alone_always
+returns c = alone
