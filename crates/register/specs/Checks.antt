@@ -3,7 +3,8 @@
 --   open_now          refusals 3 and 4: a transaction that was begun and is not decided
 --   decided_now       refusals 3 and 9: what the decision of one that is decided means for its rows
 --   row_here          refusal 6: the transaction's row at a ground
---   running, unless_past   refusal 5: that row is Running; it is, or there is none yet
+--   running           refusal 5: that row is Running
+--   unless_past       refusal 5: there is no row yet, or it is Running
 --   unwritten         refusal 7: the transaction has prewritten nothing
 --   none_running      refusal 8: none of its rows is Running
 --   cell_here         refusal 11: the cell of a key

@@ -122,7 +122,8 @@ finishes t g (Decide u) r = false
 finishes t g (Withdraw u) r = false
 finishes t g (Settle u j) r = u == t && (j == g && accepted r)
 
--- From the first accepted read or prewrite at a ground until the validation there fails or the settlement there is accepted.
+-- From the first accepted read or prewrite at a ground until the validation there fails or the settlement there is accepted. After
+-- that every access there is refused, so none makes it pending again.
 abbrev pub pending : History → ℕ → ℕ → Bool
 pending [] t g = false
 pending (e ∷ h) t g = not (finishes t g e.0 e.1) && (touches t g e.0 e.1 || pending h t g)
