@@ -5,7 +5,7 @@
 --   place same f k xs    the place of the first line whose key (by f) is the same as k, or nothing
 --   line_with same f k xs   that line itself, or nothing
 --   greatest o ks        the largest key by the order o, or nothing
---   NoneAbove o k ks    none of the keys ks is above k
+--   NoneAbove o k ks     none of the keys ks is above k
 --   Added x b d r        adding x to the book b left the book d and answered r
 --   Replaced i x b d r   replacing the line i of b by x left d and answered r
 --   Stays b d            b and d have the same limit and room, and lie in the same memory

@@ -1,7 +1,7 @@
 -- What a pass over the notes finds for a transaction t at a ground g.
 --   unfound l u            the range from l to u, and no row that has to make way
 --   with_effect i e f      the findings f with what follows from the effect e of a note whose other party's row has the place i
---   FitsEffect e          the bound of the effect e is one that a row can have
+--   FitsEffect e           the bound of the effect e is one that a row can have
 --   place_of rows t g      the place of the row of transaction t at ground g, or nothing
 --   noted rows t g f n     the findings f with what follows from the note n
 --   Marked rows notes t g f   the marks of f are those of the rows that the notes put on the before list and on the after list

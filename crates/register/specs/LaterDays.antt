@@ -23,7 +23,7 @@ crossing = record {
   ends = (0, ((pos 20), 3, 2)) ∷ (8192, ((pos 21), 3, 0)) ∷ [];
 }
 
--- A withdrawn_beside transaction keeps its lock until it is settled, so 2 takes a part of the range beside it; then it is ignored.
+-- A withdrawn transaction keeps its lock until it is settled, so 2 takes a part of the range beside it; then it is ignored.
 abbrev pub withdrawn_beside : Case
 withdrawn_beside = record {
   cells = (0, cell (pos 0) 0 0) ∷ [];

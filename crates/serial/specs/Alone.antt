@@ -1,5 +1,5 @@
 -- A transaction that meets nobody commits while stamps last.
---   NonePending h     no transaction is pending at any ground
+--   NonePending h      no transaction is pending at any ground
 --   keys_of h t        the keys of t's accepted reads and prewrites
 --   Fresh cells k      both stamps of the cell at k, if there is one, are below TOP
 --   Alone              the promise
