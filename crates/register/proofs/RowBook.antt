@@ -122,7 +122,8 @@ module _ (k : RowKey) (x : Row) (own : row_key x ≡ k) where
   bounded_replaced [] h hs = tt
   bounded_replaced (r ∷ rs) h hs = go (same_row (row_key r) k) (bounded_replaced rs h hs.1)
     where
-      go : (b : Bool) → AllByRecursion Bounded (replaced same_row row_key k x rs) → AllByRecursion Bounded (cond b (x ∷ rs) (r ∷ replaced same_row row_key k x rs))
+      go : (b : Bool) → AllByRecursion Bounded (replaced same_row row_key k x rs)
+          → AllByRecursion Bounded (cond b (x ∷ rs) (r ∷ replaced same_row row_key k x rs))
       go true later = (h, hs.1)
       go false later = (hs.0, later)
 

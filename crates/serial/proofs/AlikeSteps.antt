@@ -35,7 +35,8 @@ read_alike h t k r old now u =
     (own (eqb t u) refl)
     (All-weaker (Saw h u) (Saw ((call.Read t k, r) ∷ h) u) (λ p q. (q.0, seen_kept h t k u p.0 r (p.1, q.0) q.1)) (reads_of h u) (old u))
   where
-    each : (vs : List ℤ) → AllByRecursion (λ v. Saw ((call.Read t k, r) ∷ h) t (k, v)) vs → AllByRecursion (Saw ((call.Read t k, r) ∷ h) t) (map (λ v. (k, v)) vs)
+    each : (vs : List ℤ) → AllByRecursion (λ v. Saw ((call.Read t k, r) ∷ h) t (k, v)) vs
+        → AllByRecursion (Saw ((call.Read t k, r) ∷ h) t) (map (λ v. (k, v)) vs)
     each [] a = tt
     each (v ∷ vs) a = (a.0, each vs a.1)
 

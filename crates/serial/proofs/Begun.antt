@@ -83,7 +83,8 @@ open_known n m t e a = go (transaction_of m t) refl e
         subst (λ u. u ≤ n) i b
 
 -- The holders of locks have lines.
-locks_known : (Q : ℕ → Type 0) (rows : List Row) (k : ℕ) (xs : List AccessKey) → AllByRecursion (λ x. Q x.transaction) xs → AllByRecursion Q (locks_on rows k xs)
+locks_known : (Q : ℕ → Type 0) (rows : List Row) (k : ℕ) (xs : List AccessKey) → AllByRecursion (λ x. Q x.transaction) xs
+    → AllByRecursion Q (locks_on rows k xs)
 locks_known Q rows k [] a = tt
 locks_known Q rows k (x ∷ xs) a = go (eqb x.key k && lock_stands rows x.transaction k) (locks_known Q rows k xs a.1)
   where
