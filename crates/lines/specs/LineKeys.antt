@@ -1,4 +1,5 @@
 -- What lines go by.
+--   row_key_at t g                 the key of the row of transaction t at ground g
 --   row_key, read_key, write_key   the key of a row, a read line, a write line
 --   same_row, same_access          whether two such keys are the same
 --   rank_row, rank_access          how they compare: by transaction, then by ground or key

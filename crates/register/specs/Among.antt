@@ -1,6 +1,8 @@
--- What a validation of transaction t at ground g works out, by lists of rows and notes: for code that has no more of a register at hand.
+-- What a validation of transaction t at ground g works out, by lists of rows and notes: for code that has no more of a register at
+-- hand. Of a register's own lists they compute to what Validation says of the register.
 --   effect_among rows t g n         what follows from the note n
 --   note_floors, note_ceilings      what the notes raise the range above, and what they lower it below
+--   joins_among                     whether some note puts a row on a list
 --   befores_among, afters_among     the lowers of the before rows and the uppers of the after rows
 --   pushed_by, pushed_among         a row after a range was taken
 use Rattle.std.specs.Prelude.{ℕ, Bool, cond, ◌&&◌, List, map, ℤ, filter, ◌==◌}

@@ -6,6 +6,7 @@
 --   running           refusal 5: that row is Running
 --   unless_past       refusal 5: there is no row yet, or it is Running
 --   unwritten         refusal 7: the transaction has prewritten nothing
+--   is_write_of t w   w is a write line of the transaction t
 --   none_running      refusal 8: none of its rows is Running
 --   cell_here         refusal 11: the cell of a key
 --   new_number        refusal 1: a number above all begun, up to 4,095
@@ -27,6 +28,7 @@ use Rattle.wire.specs.declared.refusal.Refusal.TheVariants.{
 }
 use Rattle.store.specs.declared.cell.Cell.{Cell}
 use Rattle.book.specs.Books.{greatest}
+use Rattle.lines.specs.declared.access.WriteLine.{WriteLine}
 use Rattle.lines.specs.declared.row.Event.{Event}
 use Rattle.lines.specs.declared.row.Event.TheVariants.{Abort, Commit}
 use Rattle.lines.specs.declared.row.Row.{Row}
@@ -122,6 +124,10 @@ running r = unless (is_running r.state) NotRunning
 abbrev pub unless_past : Option Row → Result Unit Refusal
 unless_past None = Ok tt
 unless_past (Some r) = running r
+
+-- A write line of a transaction.
+abbrev pub is_write_of : ℕ → WriteLine → Bool
+is_write_of t w = w.transaction == t
 
 -- The transaction has no write line, at any ground.
 abbrev pub unwritten : Model → ℕ → Result Unit Refusal

@@ -1,5 +1,4 @@
 -- What the rows of a transaction allow together, gathered row by row.
---   is_write_of t w    w is a write line of the transaction t
 --   is_own t r         r is a row of the transaction t
 --   is_running_own t r and it is Running
 --   any_stamp          what no row allows less than: not aborted, and every stamp
@@ -8,17 +7,12 @@
 --   decision_as a      the decision by what is allowed
 use Rattle.std.specs.Prelude.{ℕ, Bool, false, cond, ◌&&◌, ◌||◌, List, pos, fold, ◌==◌}
 use Rattle.std.specs.Int.{int_max, int_min}
-use Rattle.lines.specs.declared.access.WriteLine.{WriteLine}
 use Rattle.lines.specs.declared.row.Row.{Row}
 use Rattle.lines.specs.declared.transaction.Decision.{Decision}
 use Rattle.lines.specs.declared.transaction.Decision.TheVariants.{Aborted}
 use Rattle.register.specs.Checks.{is_running, is_aborted}
 use Rattle.register.specs.Decisions.{decision_in}
 use Rattle.register.specs.declared.register.deciding.Allowed.{Allowed}
-
--- A write line of the transaction.
-abbrev pub is_write_of : ℕ → WriteLine → Bool
-is_write_of t w = w.transaction == t
 
 -- A row of the transaction.
 abbrev pub is_own : ℕ → Row → Bool

@@ -1,4 +1,5 @@
--- What a read and a prewrite write, by the lines there are: for code that has no more of a register at hand.
+-- What a read and a prewrite write, by the lines there are: for code that has no more of a register at hand. Of a register's own
+-- lines they compute to what Noting says of the register.
 --   read_notes, prewrite_notes   the notes that a call writes
 --   rows_needed rows t k         the row that t needs at the ground of k, where it has none
 use Rattle.std.specs.Prelude.{ℕ, List, ◌++◌, map}

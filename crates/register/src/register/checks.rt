@@ -5,8 +5,7 @@ ghost use Rattle.wire.specs.Keys.{ground_of};
 ghost use Rattle.book.specs.Books.{held};
 ghost use Rattle.lines.specs.Locks.{row_of};
 ghost use Rattle.lines.specs.Rows.{Bounded};
-ghost use Rattle.register.specs.Checks.{any, open_now, none_running, cell_here, running, unless_past, unwritten};
-ghost use Rattle.register.specs.Deciding.{is_write_of};
+ghost use Rattle.register.specs.Checks.{any, is_write_of, open_now, none_running, cell_here, running, unless_past, unwritten};
 ghost use Rattle.register.specs.Model.{transaction_of};
 ghost use Rattle.register.specs.Registers.{model};
 

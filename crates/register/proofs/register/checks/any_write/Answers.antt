@@ -1,7 +1,6 @@
 use Rattle.std.proofs.Common.{sym, ◌∙◌}
 use Rattle.std.proofs.lemmas.List.{at_drop_all}
-use Rattle.register.specs.Checks.{any}
-use Rattle.register.specs.Deciding.{is_write_of}
+use Rattle.register.specs.Checks.{any, is_write_of}
 use Rattle.register.proofs.Deciding.{any_yes, any_no}
 use Rattle.register.proofs.register.checks.any_write.Goals as goal
 

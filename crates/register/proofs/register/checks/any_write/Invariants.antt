@@ -1,6 +1,5 @@
 use Rattle.std.proofs.Common.{◌≡◌, drop}
-use Rattle.register.specs.Checks.{any}
-use Rattle.register.specs.Deciding.{is_write_of}
+use Rattle.register.specs.Checks.{any, is_write_of}
 use Rattle.register.proofs.register.checks.any_write.Given as goal
 
 -- The lines that are left give what all lines give.
