@@ -1,4 +1,2 @@
 pub mod Books
 pub mod Largest
-mod Loops
-pub mod Orders

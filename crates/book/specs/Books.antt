@@ -9,10 +9,10 @@
 --   Added x b d r        adding x to the book b left the book d and answered r
 --   Replaced i x b d r   replacing the line i of b by x left d and answered r
 --   Stays b d            b and d have the same limit and room, and lie in the same memory
-use Rattle.std.specs.Prelude.{◌≡◌, ℕ, ◌+◌, ◌<◌, ◌≤◌, min, Bool, true, false, cond, List, [], ◌∷◌, ◌++◌, length, take, Some, None, Ok, Err, Option, Result, slice_set}
+use Rattle.std.specs.Prelude.{◌≡◌, ℕ, ◌<◌, ◌≤◌, min, Bool, true, false, cond, List, [], ◌∷◌, ◌++◌, length, take, Some, None, Ok, Err, Option, Result, slice_set}
 use Rattle.std.specs.declared.cmp.Ordering.{Ordering}
 use Rattle.std.specs.Ordering.{is_lt}
-use Rattle.std.specs.List.{AllByRecursion}
+use Rattle.std.specs.List.{AllByRecursion, position_from, find, fold, reduce}
 pub use Rattle.std.specs.List.{slice_get as nth}
 use Rattle.wire.specs.declared.refusal.Refusal.{Refusal}
 use Rattle.wire.specs.declared.refusal.Refusal.TheVariants.{NoRoom}
@@ -26,9 +26,9 @@ memory b = b.lines.now
 abbrev pub room : {L : Type 0} → Book L → ℕ
 room b = min b.limit (length (memory b))
 
--- The lines that the book holds. A count above the room counts as the room.
+-- The lines that the book holds: the first of its memory, as many as it counts.
 abbrev pub held : {L : Type 0} → Book L → List L
-held b = take (min b.count (room b)) (memory b)
+held b = take b.count (memory b)
 
 -- Limit, room and memory are the same. The memory goes by its name, so that its lender learns what it holds in the end.
 pub record Stays {L : Type 0} (b d : Book L) : Type 0 where
@@ -49,8 +49,7 @@ Replaced i x b d false = (length (held b) ≤ i) × (d ≡ b)
 
 -- The place of the first line with the key k, counted from n.
 abbrev pub place_from : {L K : Type 0} → ℕ → (K → K → Bool) → (L → K) → K → List L → Option ℕ
-place_from n same f k [] = None
-place_from n same f k (x ∷ xs) = cond (same (f x) k) (Some n) (place_from (n + 1) same f k xs)
+place_from n same f k xs = position_from (λ x. same (f x) k) n xs
 
 -- The place of the first line with the key k.
 abbrev pub place : {L K : Type 0} → (K → K → Bool) → (L → K) → K → List L → Option ℕ
@@ -58,8 +57,7 @@ place same f k xs = place_from 0 same f k xs
 
 -- The first line with the key k, or nothing.
 abbrev pub line_with : {L K : Type 0} → (K → K → Bool) → (L → K) → K → List L → Option L
-line_with same f k [] = None
-line_with same f k (x ∷ xs) = cond (same (f x) k) (Some x) (line_with same f k xs)
+line_with same f k xs = find (λ x. same (f x) k) xs
 
 -- The larger of two keys, or the first where neither is.
 abbrev pub larger : {K : Type 0} → (K → K → Ordering) → K → K → K
@@ -67,13 +65,11 @@ larger o j k = cond (is_lt (o j k)) k j
 
 -- The largest of the key k and the keys after it.
 abbrev pub above : {K : Type 0} → (K → K → Ordering) → K → List K → K
-above o k [] = k
-above o k (j ∷ js) = above o (larger o k j) js
+above o k js = fold (larger o) k js
 
--- The largest of some keys.
+-- The largest of some keys, or nothing where there are none.
 abbrev pub greatest : {K : Type 0} → (K → K → Ordering) → List K → Option K
-greatest o [] = None
-greatest o (k ∷ ks) = Some (above o k ks)
+greatest o ks = reduce (larger o) ks
 
 -- None of some keys is above the one found.
 abbrev pub NoneAbove : {K : Type 0} → (K → K → Ordering) → Option K → List K → Type 0

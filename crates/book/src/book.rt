@@ -1,33 +1,25 @@
-ghost use Rattle.std.specs.Prelude.{◌≡◌, ◌+◌, ◌≤◌, min, [], length};
-ghost use Rattle.book.specs.Books.{memory, room, held, nth, Added, Replaced, Stays};
+ghost use Rattle.std.specs.Prelude.{◌≤◌, length};
 
-use wire::refusal::Refusal;
-
+mod change;
 mod largest;
 mod search;
 
-// Lines of one kind in the order written, in memory that the caller lends. A book's room is the smaller of its limit and that
-// memory. A ghost field to keep the count within the room would keep books out of other structs, so instead each method goes by
-// the smaller of count and room.
+// Lines of one kind in the order written, in memory that the caller lends. A book has room for as many as its limit and that
+// memory allow, and its type says that its count is within both.
+// The count stands beside a lent slice, since a book may allocate nothing.
 #[derive(Drop)]
 pub struct Book<'a, L> {
     lines: &'a mut [L],
     limit: usize,
     count: usize,
-}
-
-// The line number i of some lines, counted from 0; nothing past the end.
-fn line_at<L: Copy>(lines: &[L], i: usize) -> Option<L>
-    ensures { result ≡ nth lines.now i }
-{
-    if i < lines.len() {
-        Some(lines[i])
-    } else {
-        None
-    }
+    ghost within_limit: { count ≤ limit },
+    ghost within_memory: { count ≤ length lines.now },
 }
 
 impl<'a, L: Copy> Book<'a, L> {
+    ghost use Rattle.std.specs.Prelude.{◌≡◌, ◌+◌, ◌≤◌, min, [], length};
+    ghost use Rattle.book.specs.Books.{memory, room, held, nth};
+
     // An empty book. The memory stays as it is.
     pub fn new(lines: &'a mut [L], limit: usize) -> Book<'a, L>
         ensures empty { held result ≡ [] }
@@ -55,7 +47,7 @@ impl<'a, L: Copy> Book<'a, L> {
         ensures value { result ≡ length (held self.now) }
         ensures bound { result ≤ room self.now }
     {
-        self.count.min(self.room())
+        self.count
     }
 
     // How many lines can still be added.
@@ -69,39 +61,13 @@ impl<'a, L: Copy> Book<'a, L> {
     pub fn lines(&self) -> &[L]
         ensures { result.now ≡ held self.now }
     {
-        &self.lines[0..self.len()]
+        &self.lines[..self.len()]
     }
 
     // The line number i, counted from 0; nothing past the end.
     pub fn get(&self, i: usize) -> Option<L>
         ensures { result ≡ nth (held self.now) i }
     {
-        line_at(self.lines(), i)
-    }
-
-    // Adds a line at the end. A full book refuses, and leaves the whole memory as it was.
-    pub fn add(&mut self, line: L) -> Result<(), Refusal>
-        ensures cases { Added line self.old self.new result }
-        ensures stays { Stays self.old self.new }
-    {
-        let end = self.len();
-        if end >= self.room() {
-            return Err(Refusal::NoRoom);
-        }
-        self.lines[end] = line;
-        self.count = end + 1;
-        Ok(())
-    }
-
-    // Replaces the line number i and answers true; past the end it answers false and changes nothing.
-    pub fn set(&mut self, i: usize, line: L) -> bool
-        ensures cases { Replaced i line self.old self.new result }
-        ensures stays { Stays self.old self.new }
-    {
-        if i >= self.len() {
-            return false;
-        }
-        self.lines[i] = line;
-        true
+        self.lines().get(i).copied()
     }
 }

@@ -1,8 +1,3 @@
-ghost use Rattle.std.specs.Prelude.{nat_eq};
-ghost use Rattle.std.specs.Ordering.{nat_cmp};
-ghost use Rattle.book.proofs.Orders.{by_number};
-ghost use Rattle.std.proofs.Common.{rules};
-
 use book::book::Book;
 use book::line::Line;
 use std::process::Abort;
@@ -17,16 +12,6 @@ impl Line for Entry {
 
     ghost keyed = { λ x. x.0 };
 
-    ghost same = { nat_eq };
-
-    ghost order = { nat_cmp };
-
-    ghost told = { Prim.search rules };
-
-    ghost ordered = { Prim.search rules };
-
-    ghost total = { by_number };
-
     fn key(&self) -> u32 {
         self.0
     }
@@ -40,7 +25,7 @@ fn refused(rt: &impl Abort, book: &mut Book<Entry>) -> Result<(), Fail> {
     match book.add(Entry(7, 7)) {
         Ok(()) => Err(Fail::new("a full book took a line")),
         Err(refusal) => {
-            assert_eq!(rt; refusal.number(), 2);
+            assert_eq!(rt; u16::from(refusal), 2);
             Ok(())
         },
     }

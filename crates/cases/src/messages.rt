@@ -56,9 +56,7 @@ fn a_prewrite_has_64_pairs_at_most(rt: HostRuntime) -> Result<(), Fail> {
 fn reads_and_writes(rt: &impl Abort, words: &[u32], taken: usize) -> Result<(), Fail> {
     let (message, passed) = Message::read(words);
     assert_eq!(rt; passed, taken);
-    let Some(written) = message?.words() else {
-        return Err(Fail::new("it has no words"));
-    };
+    let written = message?.words().ok_or("it has no words")?;
     assert_eq!(rt; Some(&written.head), words.first());
     assert_eq!(rt; 1 + written.pairs.len(), taken);
     for (one, other) in written.pairs.iter().zip(words.iter().skip(1)) {

@@ -1,8 +1,8 @@
 use book::book::Book;
-use lines::access::{READS, WRITES};
+use lines::access::{AccessKey, READS, WRITES};
 use lines::lock::lock_stands;
 use lines::note::{Effect, NOTES, Note, Order};
-use lines::row::{Event, ROWS, Row, State};
+use lines::row::{Event, ROWS, Row, RowKey, State};
 use lines::transaction::TRANSACTIONS;
 use std::process::Abort;
 use std::test::Fail;
@@ -76,7 +76,14 @@ fn finished_rows_stay(rt: HostRuntime) -> Result<(), Fail> {
 }
 
 // What follows for transaction 1 from a note and the other party's row, with bounds 3 and 12.
-fn follows(rt: &impl Abort, first: u32, second: u32, order: Order, state: State, effect: Effect) {
+fn follows(
+    rt: &impl Abort,
+    first: u32,
+    second: u32,
+    order: Order,
+    state: State,
+    effect: Option<Effect>,
+) {
     let note = Note {
         key: 8192,
         first,
@@ -88,14 +95,21 @@ fn follows(rt: &impl Abort, first: u32, second: u32, order: Order, state: State,
 
 #[test]
 fn a_transaction_before_the_other(rt: HostRuntime) {
-    follows(&rt, 1, 2, Order::Before, State::Running, Effect::JoinAfter);
+    follows(
+        &rt,
+        1,
+        2,
+        Order::Before,
+        State::Running,
+        Some(Effect::JoinAfter),
+    );
     follows(
         &rt,
         1,
         2,
         Order::Before,
         State::Validated,
-        Effect::LowerBelow(3),
+        Some(Effect::LowerBelow(3)),
     );
     follows(
         &rt,
@@ -103,21 +117,28 @@ fn a_transaction_before_the_other(rt: HostRuntime) {
         2,
         Order::Before,
         State::Committed,
-        Effect::LowerBelow(3),
+        Some(Effect::LowerBelow(3)),
     );
-    follows(&rt, 1, 2, Order::Before, State::Aborted, Effect::Nothing);
+    follows(&rt, 1, 2, Order::Before, State::Aborted, None);
 }
 
 #[test]
 fn a_transaction_after_the_other(rt: HostRuntime) {
-    follows(&rt, 2, 1, Order::Before, State::Running, Effect::JoinBefore);
+    follows(
+        &rt,
+        2,
+        1,
+        Order::Before,
+        State::Running,
+        Some(Effect::JoinBefore),
+    );
     follows(
         &rt,
         2,
         1,
         Order::Before,
         State::Validated,
-        Effect::RaiseAbove(12),
+        Some(Effect::RaiseAbove(12)),
     );
     follows(
         &rt,
@@ -125,9 +146,9 @@ fn a_transaction_after_the_other(rt: HostRuntime) {
         1,
         Order::Before,
         State::Committed,
-        Effect::RaiseAbove(12),
+        Some(Effect::RaiseAbove(12)),
     );
-    follows(&rt, 2, 1, Order::Before, State::Aborted, Effect::Nothing);
+    follows(&rt, 2, 1, Order::Before, State::Aborted, None);
 }
 
 #[test]
@@ -139,7 +160,7 @@ fn a_transaction_apart_from_the_other(rt: HostRuntime) {
             second,
             Order::Apart,
             State::Running,
-            Effect::JoinAfter,
+            Some(Effect::JoinAfter),
         );
         follows(
             &rt,
@@ -147,7 +168,7 @@ fn a_transaction_apart_from_the_other(rt: HostRuntime) {
             second,
             Order::Apart,
             State::Validated,
-            Effect::RaiseAbove(12),
+            Some(Effect::RaiseAbove(12)),
         );
         follows(
             &rt,
@@ -155,18 +176,11 @@ fn a_transaction_apart_from_the_other(rt: HostRuntime) {
             second,
             Order::Apart,
             State::Committed,
-            Effect::RaiseAbove(12),
+            Some(Effect::RaiseAbove(12)),
         );
-        follows(
-            &rt,
-            first,
-            second,
-            Order::Apart,
-            State::Aborted,
-            Effect::Nothing,
-        );
+        follows(&rt, first, second, Order::Apart, State::Aborted, None);
     }
-    follows(&rt, 2, 3, Order::Before, State::Validated, Effect::Nothing);
+    follows(&rt, 2, 3, Order::Before, State::Validated, None);
 }
 
 // A row at ground 1.
@@ -180,21 +194,29 @@ fn row_of(transaction: u32, state: State) -> Row {
     }
 }
 
+// Whether a line of a transaction at a key stands as a lock.
+fn stands(rows: &Book<Row>, transaction: u32, key: u16) -> bool {
+    lock_stands(rows, AccessKey { transaction, key })
+}
+
 #[test]
 fn locks_stand_by_the_row(rt: HostRuntime) -> Result<(), Fail> {
-    let mut memory = [Row::new(9, 0); 4];
+    let mut memory = [Row::new(RowKey {
+        transaction: 9,
+        ground: 0,
+    }); 4];
     let mut rows = Book::new(&mut memory, ROWS);
     rows.add(row_of(1, State::Running))?;
     rows.add(row_of(2, State::Validated))?;
     rows.add(row_of(3, State::Committed))?;
     rows.add(row_of(4, State::Aborted))?;
-    assert_eq!(rt; lock_stands(&rows, 1, 8192), true);
-    assert_eq!(rt; lock_stands(&rows, 2, 16383), true);
-    assert_eq!(rt; lock_stands(&rows, 3, 8192), false);
-    assert_eq!(rt; lock_stands(&rows, 4, 8192), false);
-    assert_eq!(rt; lock_stands(&rows, 1, 8191), false);
-    assert_eq!(rt; lock_stands(&rows, 1, 16384), false);
-    assert_eq!(rt; lock_stands(&rows, 5, 8192), false);
+    assert_eq!(rt; stands(&rows, 1, 8192), true);
+    assert_eq!(rt; stands(&rows, 2, 16383), true);
+    assert_eq!(rt; stands(&rows, 3, 8192), false);
+    assert_eq!(rt; stands(&rows, 4, 8192), false);
+    assert_eq!(rt; stands(&rows, 1, 8191), false);
+    assert_eq!(rt; stands(&rows, 1, 16384), false);
+    assert_eq!(rt; stands(&rows, 5, 8192), false);
     Ok(())
 }
 
@@ -207,7 +229,13 @@ fn new_rows_are_running(rt: HostRuntime) {
         lower: 0,
         upper: 268435455,
     };
-    assert_eq!(rt; Row::new(7, 3), it);
+    assert_eq!(rt;
+        Row::new(RowKey {
+            transaction: 7,
+            ground: 3
+        }),
+        it
+    );
 }
 
 #[test]

@@ -2,11 +2,11 @@ use std::alloc::{AllocError, Global};
 use std::test::Fail;
 use store::cell::Cell;
 use store::fault::{Cause, Fault};
-use store::memory::flat::{Flat, flat_fault};
-use store::memory::sparse::{Sparse, sparse_fault};
-use store::split::{Split, split_fault};
+use store::memory::flat::{Flat, check_flat};
+use store::memory::sparse::{Sparse, check_sparse};
+use store::split::{Split, check_boundary};
 use store::store::Store;
-use survey::image::image_fault;
+use survey::image::check_image;
 use wire::refusal::Refusal;
 use wire::stamp::Stamp;
 
@@ -27,12 +27,12 @@ fn cell(value: i16) -> Cell {
 }
 
 // A fault of the whole, or of a line.
-fn whole(cause: Cause) -> Option<Fault> {
-    Some(Fault { cause, line: None })
+fn whole(cause: Cause) -> Result<(), Fault> {
+    Err(Fault { cause, line: None })
 }
 
-fn at(cause: Cause, line: usize) -> Option<Fault> {
-    Some(Fault {
+fn at(cause: Cause, line: usize) -> Result<(), Fault> {
+    Err(Fault {
         cause,
         line: Some(line),
     })
@@ -40,16 +40,16 @@ fn at(cause: Cause, line: usize) -> Option<Fault> {
 
 #[test]
 fn each_fault_of_a_flat_store(rt: HostRuntime) -> Result<(), Fail> {
-    assert_eq!(rt; flat_fault(7, &[V, W, R, V, W, R]), None);
-    assert_eq!(rt; flat_fault(0, &[V, W, R, V]), whole(Cause::PartLine));
+    assert_eq!(rt; check_flat(7, &[V, W, R, V, W, R]), Ok(()));
+    assert_eq!(rt; check_flat(0, &[V, W, R, V]), whole(Cause::PartLine));
     assert_eq!(rt;
-        flat_fault(0, vec![in rt.alloc(); 0; 24_579]?.as_slice()),
+        check_flat(0, vec![in rt.alloc(); 0; 24_579]?.as_slice()),
         whole(Cause::TooMany)
     );
-    assert_eq!(rt; flat_fault(8, &[V, W, R]), whole(Cause::GroundAbove7));
-    assert_eq!(rt; flat_fault(0, &[V, W, R, V, R, R]), at(Cause::WrongKind, 1));
+    assert_eq!(rt; check_flat(8, &[V, W, R]), whole(Cause::GroundAbove7));
+    assert_eq!(rt; check_flat(0, &[V, W, R, V, R, R]), at(Cause::WrongKind, 1));
     assert_eq!(rt;
-        flat_fault(0, &[V, W, R, V + 65536, W, R]),
+        check_flat(0, &[V, W, R, V + 65536, W, R]),
         at(Cause::StrayBits, 1)
     );
     let mut bad = [V, W, R, V, R, R];
@@ -62,23 +62,23 @@ fn each_fault_of_a_flat_store(rt: HostRuntime) -> Result<(), Fail> {
 
 #[test]
 fn each_fault_of_a_sparse_store(rt: HostRuntime) -> Result<(), Fail> {
-    assert_eq!(rt; sparse_fault(&[K, V, W, R, K + 9, V, W, R]), None);
-    assert_eq!(rt; sparse_fault(&[K, V, W]), whole(Cause::PartLine));
+    assert_eq!(rt; check_sparse(&[K, V, W, R, K + 9, V, W, R]), Ok(()));
+    assert_eq!(rt; check_sparse(&[K, V, W]), whole(Cause::PartLine));
     assert_eq!(rt;
-        sparse_fault(vec![in rt.alloc(); 0; 16_388]?.as_slice()),
+        check_sparse(vec![in rt.alloc(); 0; 16_388]?.as_slice()),
         whole(Cause::TooMany)
     );
-    assert_eq!(rt; sparse_fault(&[V, V, W, R]), at(Cause::WrongKind, 0));
+    assert_eq!(rt; check_sparse(&[V, V, W, R]), at(Cause::WrongKind, 0));
     assert_eq!(rt;
-        sparse_fault(&[K, V, W, R, K + 65536, V, W, R]),
+        check_sparse(&[K, V, W, R, K + 65536, V, W, R]),
         at(Cause::StrayBits, 1)
     );
     assert_eq!(rt;
-        sparse_fault(&[K, V, W, R, K, V, W, R]),
+        check_sparse(&[K, V, W, R, K, V, W, R]),
         at(Cause::KeysNotRising, 1)
     );
-    assert_eq!(rt; image_fault(&[K, V, W, R], 0), None);
-    assert_eq!(rt; image_fault(&[K, V, W, R], 3), whole(Cause::PartLine));
+    assert_eq!(rt; check_image(&[K, V, W, R], 0), Ok(()));
+    assert_eq!(rt; check_image(&[K, V, W, R], 3), whole(Cause::PartLine));
     let mut bad = [K + 9, V, W, R, K, V, W, R];
     let store = Sparse::new(&mut bad);
     assert_eq!(rt; store.fetch(9), None);
@@ -87,14 +87,13 @@ fn each_fault_of_a_sparse_store(rt: HostRuntime) -> Result<(), Fail> {
 
 #[test]
 fn a_boundary_above_8_sends_all_left(rt: HostRuntime) {
-    assert_eq!(rt; split_fault(8), None);
-    assert_eq!(rt; split_fault(9), whole(Cause::BoundaryAbove8));
+    assert_eq!(rt; check_boundary(8), Ok(()));
+    assert_eq!(rt; check_boundary(9), whole(Cause::BoundaryAbove8));
     assert_eq!(rt;
-        Fault {
+        Refusal::from(Fault {
             cause: Cause::BoundaryAbove8,
             line: None,
-        }
-        .refusal(),
+        }),
         Refusal::BadStore
     );
     let mut left = [V + 1, W + 3, R + 5];

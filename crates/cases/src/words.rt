@@ -40,11 +40,9 @@ fn keys_have_three_parts(rt: HostRuntime) -> Result<(), Fail> {
         (65535, 7, 2047, Field::Status),
     ];
     for (key, ground, plot, field) in corners {
-        let Some(place) = Place::new(ground, plot, field) else {
-            return Err(Fail::new("no such place"));
-        };
-        assert_eq!(rt; place.key(), key);
-        assert_eq!(rt; Place::of_key(key), place);
+        let place = Place::new(ground, plot, field).ok_or("no such place")?;
+        assert_eq!(rt; u16::from(place), key);
+        assert_eq!(rt; Place::from(key), place);
     }
     assert_eq!(rt; Place::new(8, 0, Field::North), None);
     assert_eq!(rt; Place::new(0, 2048, Field::Holder), None);
@@ -53,9 +51,7 @@ fn keys_have_three_parts(rt: HostRuntime) -> Result<(), Fail> {
 
 #[test]
 fn stamps_end_at_top(rt: HostRuntime) -> Result<(), Fail> {
-    let Some(top) = Stamp::new(TOP) else {
-        return Err(Fail::new("TOP is a stamp"));
-    };
+    let top = Stamp::new(TOP).ok_or("TOP is a stamp")?;
     assert_eq!(rt; Stamp::new(TOP + 1), None);
     assert_eq!(rt; top.above(), 268_435_456);
     assert_eq!(rt; Stamp::in_word(0).below(), -1);
@@ -134,8 +130,8 @@ fn bytes_come_lowest_first(rt: HostRuntime) -> Result<(), Fail> {
 
 #[test]
 fn refusals_say_their_cause(rt: HostRuntime) -> Result<(), Fail> {
-    assert_eq!(rt; Refusal::BadNumber.number(), 1);
-    assert_eq!(rt; Refusal::BadStore.number(), 13);
+    assert_eq!(rt; u16::from(Refusal::BadNumber), 1);
+    assert_eq!(rt; u16::from(Refusal::BadStore), 13);
     assert_eq!(rt;
         Refusal::NoSuchKey.to_string(rt.alloc())?.as_str(),
         "the store has no such key"

@@ -2,10 +2,7 @@
 --   row_key_at t g                 the key of the row of transaction t at ground g
 --   row_key, read_key, write_key   the key of a row, a read line, a write line
 --   same_row, same_access          whether two such keys are the same
---   rank_row, rank_access          how they compare: by transaction, then by ground or key
 use Rattle.std.specs.Prelude.{ℕ, Bool, ◌&&◌, ◌==◌}
-use Rattle.std.specs.declared.cmp.Ordering.{Ordering}
-use Rattle.std.specs.Ordering.{ordering_then, nat_cmp}
 use Rattle.lines.specs.declared.access.AccessKey.{AccessKey}
 use Rattle.lines.specs.declared.access.ReadLine.{ReadLine}
 use Rattle.lines.specs.declared.access.WriteLine.{WriteLine}
@@ -24,10 +21,6 @@ row_key x = row_key_at x.transaction x.ground
 abbrev pub same_row : RowKey → RowKey → Bool
 same_row x y = x.transaction == y.transaction && x.ground == y.ground
 
--- By transaction, then by ground.
-abbrev pub rank_row : RowKey → RowKey → Ordering
-rank_row x y = ordering_then (nat_cmp x.transaction y.transaction) (nat_cmp x.ground y.ground)
-
 -- A read line goes by its transaction and key.
 abbrev pub read_key : ReadLine → AccessKey
 read_key x = record { transaction = x.transaction; key = x.key }
@@ -39,7 +32,3 @@ write_key x = record { transaction = x.transaction; key = x.key }
 -- The same transaction and key.
 abbrev pub same_access : AccessKey → AccessKey → Bool
 same_access x y = x.transaction == y.transaction && x.key == y.key
-
--- By transaction, then by key.
-abbrev pub rank_access : AccessKey → AccessKey → Ordering
-rank_access x y = ordering_then (nat_cmp x.transaction y.transaction) (nat_cmp x.key y.key)

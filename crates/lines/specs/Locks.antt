@@ -5,7 +5,7 @@
 use Rattle.std.specs.Prelude.{ℕ, Bool, true, false, List, Some, None, Option}
 use Rattle.book.specs.Books.{line_with}
 use Rattle.wire.specs.Keys.{ground_of}
-use Rattle.lines.specs.LineKeys.{row_key, same_row}
+use Rattle.lines.specs.LineKeys.{row_key, row_key_at, same_row}
 use Rattle.lines.specs.declared.row.Row.{Row}
 use Rattle.lines.specs.declared.row.State.{State}
 use Rattle.lines.specs.declared.row.State.TheVariants.{Running, Validated, Committed, Aborted}
@@ -23,7 +23,7 @@ holds_lock r = live r.state
 
 -- The first row of a transaction at a ground.
 abbrev pub row_of : List Row → (transaction ground : ℕ) → Option Row
-row_of rows t g = line_with same_row row_key (record { transaction = t; ground = g }) rows
+row_of rows t g = line_with same_row row_key (row_key_at t g) rows
 
 -- The lock of a row, if there is a row.
 abbrev pub locked_by : Option Row → Bool

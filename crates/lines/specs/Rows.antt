@@ -18,11 +18,11 @@ new_row t g = record { transaction = t; ground = g; state = Running; lower = pos
 
 -- The row in another state, with its bounds.
 abbrev pub in_state : Row → State → Row
-in_state r s = record { transaction = r.transaction; ground = r.ground; state = s; lower = r.lower; upper = r.upper }
+in_state r s = record r { state = s }
 
 -- The row in another state, with other bounds.
 abbrev pub with_bounds : Row → State → ℤ → ℤ → Row
-with_bounds r s l u = record { transaction = r.transaction; ground = r.ground; state = s; lower = l; upper = u }
+with_bounds r s l u = record r { state = s; lower = l; upper = u }
 
 -- A row whose validation passed, and which was not aborted since.
 abbrev pub past : State → Bool

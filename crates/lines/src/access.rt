@@ -1,8 +1,10 @@
-ghost use Rattle.lines.specs.LineKeys.{same_access, rank_access, read_key, write_key};
-ghost use Rattle.book.proofs.Orders.{by_two};
-ghost use Rattle.std.proofs.Common.{rules};
+ghost use Rattle.std.specs.Prelude.{◌≡◌};
+ghost use Rattle.wire.specs.Keys.{ground_of};
+ghost use Rattle.lines.specs.LineKeys.{row_key_at, read_key, write_key};
 
+use crate::row::RowKey;
 use book::line::Line;
+use wire::place::Place;
 use wire::stamp::Stamp;
 
 // The most read lines, and the most write lines.
@@ -17,7 +19,20 @@ pub struct AccessKey {
     pub key: u16,
 }
 
+impl AccessKey {
+    // The key of the transaction's row at the key's ground.
+    pub fn row_key(self) -> RowKey
+        ensures { result ≡ row_key_at self.transaction (ground_of self.key) }
+    {
+        RowKey {
+            transaction: self.transaction,
+            ground: Place::from(self.key).burial_ground,
+        }
+    }
+}
+
 // A cell that a transaction read: the value and the write stamp that it saw.
+// A line has the parts of its key as fields of its own, since most of what is asked of a line is about one of the two.
 #[derive(Clone, Copy, PartialEq, Eq, Debug)]
 pub struct ReadLine {
     pub transaction: u32,
@@ -27,6 +42,7 @@ pub struct ReadLine {
 }
 
 // A cell that a transaction will write, with the value.
+// It is no instance of one generic line, which would give it a stamp seen that means nothing.
 #[derive(Clone, Copy, PartialEq, Eq, Debug)]
 pub struct WriteLine {
     pub transaction: u32,
@@ -34,20 +50,11 @@ pub struct WriteLine {
     pub value: i16,
 }
 
+// A read line goes by its transaction and key.
 impl Line for ReadLine {
     type Key = AccessKey;
 
     ghost keyed = { read_key };
-
-    ghost same = { same_access };
-
-    ghost order = { rank_access };
-
-    ghost told = { Prim.search rules };
-
-    ghost ordered = { Prim.search rules };
-
-    ghost total = { by_two (λ k. k.transaction) (λ k. k.key) };
 
     fn key(&self) -> AccessKey {
         AccessKey {
@@ -57,20 +64,11 @@ impl Line for ReadLine {
     }
 }
 
+// The same as of a read line: an impl for all lines with an access key would collide with those of rows and transactions.
 impl Line for WriteLine {
     type Key = AccessKey;
 
     ghost keyed = { write_key };
-
-    ghost same = { same_access };
-
-    ghost order = { rank_access };
-
-    ghost told = { Prim.search rules };
-
-    ghost ordered = { Prim.search rules };
-
-    ghost total = { by_two (λ k. k.transaction) (λ k. k.key) };
 
     fn key(&self) -> AccessKey {
         AccessKey {

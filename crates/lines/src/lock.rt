@@ -2,9 +2,9 @@ ghost use Rattle.std.specs.Prelude.{◌≡◌};
 ghost use Rattle.book.specs.Books.{held};
 ghost use Rattle.lines.specs.Locks.{holds_lock, lock_stands};
 
-use crate::row::{Row, RowKey, State};
+use crate::access::AccessKey;
+use crate::row::{Row, State};
 use book::book::Book;
-use wire::place::Place;
 
 impl Row {
     // Whether the row lets its transaction's reads and writes at its ground stand as soft locks.
@@ -15,15 +15,10 @@ impl Row {
     }
 }
 
-// Whether a transaction's read or write line at a key stands as a soft lock: its row at the key's ground is Running or Validated.
-pub fn lock_stands(rows: &Book<Row>, transaction: u32, key: u16) -> bool
-    ensures { result ≡ lock_stands (held rows.now) transaction key }
+// Whether a read or write line stands as a soft lock: its transaction's row at the key's ground is Running or Validated.
+pub fn lock_stands(rows: &Book<Row>, access: AccessKey) -> bool
+    ensures { result ≡ lock_stands (held rows.now) access.transaction access.key }
 {
-    match rows.find(RowKey {
-        transaction,
-        ground: Place::of_key(key).burial_ground,
-    }) {
-        Some(row) => row.holds_lock(),
-        None => false,
-    }
+    rows.find(access.row_key())
+        .is_some_and(|row| row.holds_lock())
 }

@@ -1,5 +1,5 @@
 ghost use Rattle.std.specs.Prelude.{◌≡◌};
-ghost use Rattle.lines.specs.Notes.{side_of, effect_of};
+ghost use Rattle.lines.specs.Notes.{side_of, effect_by, effect_of};
 
 use crate::row::{Row, State};
 
@@ -28,45 +28,55 @@ pub enum Side {
     Earlier,
     Later,
     Apart,
-    Neither,
 }
 
-// What follows from one note for a transaction that is validated: nothing; its upper bound goes below a bound, or its lower bound
-// above one; or the other party's row joins a list of rows to be narrowed.
+// What follows from one note for a transaction that is validated: its upper bound goes below a bound, or its lower bound above one;
+// or the other party's row joins a list of rows to be narrowed.
 #[derive(Clone, Copy, PartialEq, Eq, Debug)]
 pub enum Effect {
-    Nothing,
     LowerBelow(i32),
     RaiseAbove(i32),
     JoinBefore,
     JoinAfter,
 }
 
+impl Side {
+    // What follows for a transaction on this side of a note, given the other party's row; nothing from an Aborted one.
+    pub fn effect(self, other: &Row) -> Option<Effect>
+        ensures { result ≡ effect_by self other.now.state other.now }
+    {
+        match (self, other.state) {
+            (_, State::Aborted) => None,
+            (Side::Earlier, State::Running) => Some(Effect::JoinAfter),
+            (Side::Earlier, _) => Some(Effect::LowerBelow(other.lower)),
+            (Side::Later, State::Running) => Some(Effect::JoinBefore),
+            (Side::Later, _) => Some(Effect::RaiseAbove(other.upper)),
+            (Side::Apart, State::Running) => Some(Effect::JoinAfter),
+            (Side::Apart, _) => Some(Effect::RaiseAbove(other.upper)),
+        }
+    }
+}
+
 impl Note {
-    // What the note says of a transaction: that it comes earlier than the other party, later, or apart from it.
-    pub fn side(&self, transaction: u32) -> Side
+    // What the note says of a transaction: that it comes earlier than the other party, later, or apart from it. A note of two others
+    // says nothing of it.
+    pub fn side(&self, transaction: u32) -> Option<Side>
         ensures { result ≡ side_of self.now transaction }
     {
         match self.order {
-            Order::Before if self.first == transaction => Side::Earlier,
-            Order::Before if self.second == transaction => Side::Later,
-            Order::Apart if self.first == transaction || self.second == transaction => Side::Apart,
-            _ => Side::Neither,
+            Order::Before if self.first == transaction => Some(Side::Earlier),
+            Order::Before if self.second == transaction => Some(Side::Later),
+            Order::Apart if self.first == transaction || self.second == transaction => {
+                Some(Side::Apart)
+            }
+            _ => None,
         }
     }
 
     // What follows from the note for the transaction that is validated, given the other party's row at the note's ground.
-    pub fn effect(&self, transaction: u32, other: &Row) -> Effect
+    pub fn effect(&self, transaction: u32, other: &Row) -> Option<Effect>
         ensures { result ≡ effect_of self.now transaction other.now }
     {
-        match (self.side(transaction), other.state) {
-            (Side::Neither, _) | (_, State::Aborted) => Effect::Nothing,
-            (Side::Earlier, State::Running) => Effect::JoinAfter,
-            (Side::Earlier, _) => Effect::LowerBelow(other.lower),
-            (Side::Later, State::Running) => Effect::JoinBefore,
-            (Side::Later, _) => Effect::RaiseAbove(other.upper),
-            (Side::Apart, State::Running) => Effect::JoinAfter,
-            (Side::Apart, _) => Effect::RaiseAbove(other.upper),
-        }
+        self.side(transaction)?.effect(other)
     }
 }

@@ -1,8 +1,6 @@
 ghost use Rattle.std.specs.Prelude.{◌≡◌};
-ghost use Rattle.lines.specs.LineKeys.{same_row, rank_row, row_key};
+ghost use Rattle.lines.specs.LineKeys.{row_key};
 ghost use Rattle.lines.specs.Rows.{new_row, moved, Bounded, FitsEvent};
-ghost use Rattle.book.proofs.Orders.{by_two};
-ghost use Rattle.std.proofs.Common.{rules};
 
 use book::line::Line;
 use wire::refusal::Refusal;
@@ -20,7 +18,7 @@ pub enum State {
     Aborted,
 }
 
-// What a row goes by: a transaction has one row at a ground.
+// What a row goes by: a transaction has one row at a ground. It is a type of its own, so that no ground passes for a key.
 #[derive(Clone, Copy, PartialEq, Eq, PartialOrd, Ord, Debug)]
 pub struct RowKey {
     pub transaction: u32,
@@ -28,6 +26,7 @@ pub struct RowKey {
 }
 
 // What one ground knows of one transaction: its state, and the stamps that still suit it, from `lower` to `upper`, both inside.
+// Their limits are no fact of this type, since it would ask them of everyone who writes a row or an event.
 #[derive(Clone, Copy, PartialEq, Eq, Debug)]
 pub struct Row {
     pub transaction: u32,
@@ -51,16 +50,6 @@ impl Line for Row {
 
     ghost keyed = { row_key };
 
-    ghost same = { same_row };
-
-    ghost order = { rank_row };
-
-    ghost told = { Prim.search rules };
-
-    ghost ordered = { Prim.search rules };
-
-    ghost total = { by_two (λ k. k.transaction) (λ k. k.ground) };
-
     fn key(&self) -> RowKey {
         RowKey {
             transaction: self.transaction,
@@ -71,12 +60,12 @@ impl Line for Row {
 
 impl Row {
     // A row as a transaction's first read or prewrite at a ground writes it: Running, and every stamp suits.
-    pub fn new(transaction: u32, ground: u16) -> Row
-        ensures { result ≡ new_row transaction ground }
+    pub fn new(key: RowKey) -> Row
+        ensures { result ≡ new_row key.transaction key.ground }
     {
         Row {
-            transaction,
-            ground,
+            transaction: key.transaction,
+            ground: key.ground,
             state: State::Running,
             lower: 0,
             upper: TOP as i32,
@@ -97,9 +86,10 @@ impl Row {
             (State::Running, Event::Fail) => self.state = State::Aborted,
             (State::Running | State::Validated, Event::Abort) => self.state = State::Aborted,
             (State::Validated, Event::Commit { stamp }) => {
+                let bound = stamp.number() as i32;
                 self.state = State::Committed;
-                self.lower = stamp.number() as i32;
-                self.upper = stamp.number() as i32;
+                self.lower = bound;
+                self.upper = bound;
             }
             (State::Running, Event::Commit { .. }) => return Err(Refusal::StillRunning),
             (_, Event::Pass { .. } | Event::Fail) => return Err(Refusal::NotRunning),

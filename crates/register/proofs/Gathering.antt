@@ -1,41 +1,45 @@
 -- The rows that are marked, one after the other.
 --   no_row        what a read of a slice of rows has as its default
---   shown_at      the mark at a row's place says whether the row passes the test
+--   shown_at      the marks at a row's place are those of the row
+--   longer        a list with at most one value more
 --   gather_more   the bound of the next row is gathered, if it is marked
---   gather_all    at the end those of all marked rows are
-use Rattle.std.proofs.Common.{◌≡◌, ℕ, ◌+◌, ◌<◌, ◌≤◌, Bool, true, false, cond, List, [], ◌∷◌, ◌++◌, map, length, get_or, take, ℤ, pos, filter, sym, refl, ap, ◌∙◌}
+use Rattle.std.proofs.Common.{◌≡◌, ℕ, ◌+◌, ◌<◌, ◌≤◌, Bool, true, false, cond, List, [], ◌∷◌, ◌++◌, map, length, get_or, take, ℤ, pos, filter, sym, refl, ap, ◌∙◌, length-append, arith}
 use Rattle.std.proofs.lemmas.List.Elements.{filter_more}
-use Rattle.std.proofs.lemmas.List.{get_or-map, get_or-take, map-append, take_all}
+use Rattle.std.proofs.lemmas.List.{get_or-map, get_or-take, map-append}
 use Rattle.lines.specs.declared.row.Row.{Row}
 use Rattle.lines.specs.declared.row.State.TheVariants.{Running}
+use Rattle.register.specs.Findings.{unmarked}
+use Rattle.register.specs.declared.validation.findings.Marks.{Marks}
 
 -- What a read of a slice of rows has as its default.
 abbrev pub no_row : Row
 no_row = record { transaction = 0; ground = 0; state = Running; lower = pos 0; upper = pos 0 }
 
-module _ (p : Row → Bool) (rows : List Row) where
-  -- The mark at a row's place says whether the row passes the test.
-  pub shown_at : (marks : List Bool) (i : ℕ) (d : Row) → take (length rows) marks ≡ map p rows → i < length rows
-      → get_or marks i false ≡ p (get_or rows i d)
-  shown_at marks i d e l = sym (get_or-take (length rows) marks i false l) ∙ (ap (λ bs. get_or bs i false) e ∙ get_or-map p rows i d false l)
+-- A list with at most one value more.
+pub longer : {X : Type 0} (out out' : List X) (b : Bool) (i : ℕ) (x : X) → out' ≡ out ++ cond b (x ∷ []) [] → length out ≤ i → length out' ≤ i + 1
+longer out out' true i x e h = let l = ap length e ∙ length-append out (x ∷ []) in omega arith
+longer out out' false i x e h = let l = ap length e ∙ length-append out [] in omega arith
 
-  module _ (f : Row → ℤ) where
+module _ (p : Row → Marks) (rows : List Row) (marks : List Marks) (is : take (length rows) marks ≡ map p rows) where
+  -- The marks at a row's place are those of the row.
+  pub shown_at : (i : ℕ) (d : Row) → i < length rows → get_or marks i unmarked ≡ p (get_or rows i d)
+  shown_at i d l =
+      sym (get_or-take (length rows) marks i unmarked l) ∙ (ap (λ ms. get_or ms i unmarked) is ∙ get_or-map p rows i d unmarked l)
+
+  module _ (on : Marks → Bool) (f : Row → ℤ) where
     one : (b : Bool) (r : Row) → map f (cond b (r ∷ []) []) ≡ cond b (f r ∷ []) []
     one true r = refl
     one false r = refl
 
     -- The bound of the next row is gathered, if it is marked.
-    pub gather_more : (marks : List Bool) (out : List ℤ) (i : ℕ) (d : Row) → take (length rows) marks ≡ map p rows → i < length rows
-        → out ≡ map f (filter p (take i rows))
-        → out ++ cond (get_or marks i false) (f (get_or rows i d) ∷ []) [] ≡ map f (filter p (take (i + 1) rows))
-    gather_more marks out i d e l h =
+    pub gather_more : (out : List ℤ) (i : ℕ) (d : Row) → i < length rows
+        → out ≡ map f (filter (λ r. on (p r)) (take i rows))
+        → out ++ cond (on (get_or marks i unmarked)) (f (get_or rows i d) ∷ []) [] ≡ map f (filter (λ r. on (p r)) (take (i + 1) rows))
+    gather_more out i d l h =
+        let test = λ (r : Row). on (p r) in
         let r = get_or rows i d in
-        let before = filter p (take i rows) in
-        ap (λ zs. zs ++ cond (get_or marks i false) (f r ∷ []) []) h
-        ∙ (ap (λ b. map f before ++ cond b (f r ∷ []) []) (shown_at marks i d e l)
-        ∙ sym (ap (map f) (filter_more p rows i d l)
-        ∙ (map-append f before (cond (p r) (r ∷ []) []) ∙ ap (λ zs. map f before ++ zs) (one (p r) r))))
-
-    -- At the end those of all marked rows are.
-    pub gather_all : (out : List ℤ) (i : ℕ) → length rows ≤ i → out ≡ map f (filter p (take i rows)) → out ≡ map f (filter p rows)
-    gather_all out i l h = h ∙ ap (λ xs. map f (filter p xs)) (take_all i rows l)
+        let before = filter test (take i rows) in
+        ap (λ zs. zs ++ cond (on (get_or marks i unmarked)) (f r ∷ []) []) h
+        ∙ (ap (λ m. map f before ++ cond (on m) (f r ∷ []) []) (shown_at i d l)
+        ∙ sym (ap (map f) (filter_more test rows i d l)
+        ∙ (map-append f before (cond (test r) (r ∷ []) []) ∙ ap (λ zs. map f before ++ zs) (one (test r) r))))

@@ -8,7 +8,6 @@ pub mod Registers
 pub mod Deciding
 -- The notes of a read and a prewrite.
 pub mod Meetings
-pub mod Walks
 mod Accessing
 -- Validation: bounds, the effect of a note, marks, lists, making way.
 pub mod Raising

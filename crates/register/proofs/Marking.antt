@@ -1,63 +1,59 @@
 -- What a pass over the notes finds, and the places that it marks.
 --   lower_noted, upper_noted    the bounds: raised and lowered by what follows from each note
---   before_noted, after_noted   the marks: at each row, whether some note puts it on the list
-use Rattle.std.proofs.Common.{◌≡◌, ℕ, ◌+◌, ◌<◌, ◌≤◌, Bool, true, false, cond, ◌&&◌, ◌||◌, eqb, List, [], ◌∷◌, map, length, get_or, take, set, replicate, ℤ, Some, None, fold, Option, unwrap_or, sym, refl, ap, ◌∙◌, ⊎_elim, arith}
-use Rattle.std.proofs.lemmas.List.{length-set, length-take, length-map, length-replicate, get_or-set_same, get_or-set_other, get_or-take, get_or-map, get_or-replicate, ext_get_or}
+--   marks_are                   the marks: at each row, whether some note puts it on each of the two lists
+use Rattle.std.proofs.Common.{◌≡◌, ℕ, ◌+◌, ◌<◌, ◌≤◌, Bool, true, false, cond, ◌&&◌, ◌||◌, eqb, List, [], ◌∷◌, map, length, get_or, take, drop, set, replicate, Some, None, fold, Option, unwrap_or, sym, refl, ap, ◌∙◌, ⊎_elim, arith}
+use Rattle.std.proofs.lemmas.List.{length-set, length-take, length-map, length-replicate, get_or-set_same, get_or-set_other, get_or-take, get_or-map, get_or-replicate, ext_get_or, take-map, map-set}
+use Rattle.std.proofs.Math.Seq.{map-set_same}
+use lib.LanesLaws.{map-replicate}
 use Rattle.std.proofs.lemmas.Bool.{ne_eqb, eq-eqb, cases_eq, or_right, true≢false}
 use Rattle.std.proofs.lemmas.Bool.Decides.{nat_tests}
 use Rattle.std.specs.List.{IsDistinct, flat_map}
 use Rattle.lines.specs.LineKeys.{row_key, same_row}
 use Rattle.lines.specs.Rows.{new_row}
 use Rattle.lines.specs.declared.note.Effect.{Effect}
-use Rattle.lines.specs.declared.note.Effect.TheVariants.{Nothing, LowerBelow, RaiseAbove, JoinBefore, JoinAfter}
+use Rattle.lines.specs.declared.note.Effect.TheVariants.{LowerBelow, RaiseAbove, JoinBefore, JoinAfter}
 use Rattle.lines.specs.declared.note.Note.{Note}
 use Rattle.lines.specs.declared.row.Row.{Row}
-use Rattle.register.specs.Findings.{unfound, with_effect, noted, place_of}
+use Rattle.register.specs.Findings.{unmarked, unfound, with_any, noted, place_of, marks_among, Marked}
 use Rattle.register.specs.Validation.{raised_above, lowered_below, other_party, effect_floor, effect_ceiling, is_before, is_after}
 use Rattle.register.specs.Among.{effect_among, joins_among}
+use Rattle.register.specs.declared.range.Range.{Range}
 use Rattle.register.specs.declared.validation.findings.Findings.{Findings}
+use Rattle.register.specs.declared.validation.findings.Marks.{Marks}
 use Rattle.register.proofs.Effects.{effect_without_row}
 use Rattle.register.proofs.Raising.{raised_append, lowered_append}
 use Rattle.register.proofs.RowPlaces.{only_place}
 
 module _ (rows : List Row) (t g : ℕ) where
   -- What follows from a note.
-  abbrev effect : Note → Effect
+  abbrev effect : Note → Option Effect
   effect n = effect_among rows t g n
 
-  lower_with : (i : ℕ) (e : Effect) (f : Findings) → (with_effect i e f).lower ≡ raised_above f.lower (effect_floor e)
-  lower_with i Nothing f = refl
-  lower_with i (LowerBelow x) f = refl
-  lower_with i (RaiseAbove x) f = refl
-  lower_with i JoinBefore f = refl
-  lower_with i JoinAfter f = refl
+  lower_with : (i : ℕ) (e : Option Effect) (f : Findings) → (with_any i e f).range.lower ≡ raised_above f.range.lower (effect_floor e)
+  lower_with i e f = grind arith
 
-  upper_with : (i : ℕ) (e : Effect) (f : Findings) → (with_effect i e f).upper ≡ lowered_below f.upper (effect_ceiling e)
-  upper_with i Nothing f = refl
-  upper_with i (LowerBelow x) f = refl
-  upper_with i (RaiseAbove x) f = refl
-  upper_with i JoinBefore f = refl
-  upper_with i JoinAfter f = refl
+  upper_with : (i : ℕ) (e : Option Effect) (f : Findings) → (with_any i e f).range.upper ≡ lowered_below f.range.upper (effect_ceiling e)
+  upper_with i e f = grind arith
 
   pub lower_noted : (f : Findings) (notes : List Note)
-      → (fold (noted rows t g) f notes).lower ≡ raised_above f.lower (flat_map (λ n. effect_floor (effect n)) notes)
+      → (fold (noted rows t g) f notes).range.lower ≡ raised_above f.range.lower (flat_map (λ n. effect_floor (effect n)) notes)
   lower_noted f [] = refl
   lower_noted f (n ∷ ns) =
       let rest = flat_map (λ n. effect_floor (effect n)) ns in
       lower_noted (noted rows t g f n) ns
-      ∙ (ap (λ l. raised_above l rest) (lower_with _ (effect n) f) ∙ sym (raised_append f.lower (effect_floor (effect n)) rest))
+      ∙ (ap (λ l. raised_above l rest) (lower_with _ (effect n) f) ∙ sym (raised_append f.range.lower (effect_floor (effect n)) rest))
 
   pub upper_noted : (f : Findings) (notes : List Note)
-      → (fold (noted rows t g) f notes).upper ≡ lowered_below f.upper (flat_map (λ n. effect_ceiling (effect n)) notes)
+      → (fold (noted rows t g) f notes).range.upper ≡ lowered_below f.range.upper (flat_map (λ n. effect_ceiling (effect n)) notes)
   upper_noted f [] = refl
   upper_noted f (n ∷ ns) =
       let rest = flat_map (λ n. effect_ceiling (effect n)) ns in
       upper_noted (noted rows t g f n) ns
-      ∙ (ap (λ u. lowered_below u rest) (upper_with _ (effect n) f) ∙ sym (lowered_append f.upper (effect_ceiling (effect n)) rest))
+      ∙ (ap (λ u. lowered_below u rest) (upper_with _ (effect n) f) ∙ sym (lowered_append f.range.upper (effect_ceiling (effect n)) rest))
 
   -- One of the two lists: the marks that show it, and the effects that put a row on it.
-  module _ (marks : Findings → List Bool) (on : Effect → Bool) (idle : on Nothing ≡ false)
-      (marked : (i : ℕ) (e : Effect) (f : Findings) → marks (with_effect i e f) ≡ cond (on e) (set (marks f) i true) (marks f))
+  module _ (marks : Findings → List Bool) (on : Option Effect → Bool) (idle : on None ≡ false)
+      (marked : (i : ℕ) (e : Option Effect) (f : Findings) → marks (with_any i e f) ≡ cond (on e) (set (marks f) i true) (marks f))
       (distinct : IsDistinct same_row (map row_key rows)) where
     length_with : (b : Bool) (i : ℕ) (xs : List Bool) → length (cond b (set xs i true) xs) ≡ length xs
     length_with true i xs = length-set xs i true
@@ -141,26 +137,49 @@ module _ (rows : List Row) (t g : ℕ) where
             get_or-take (length rows) _ i false l ∙ (marks_noted f notes i d l room
             ∙ (ap (λ b. b || joins_among on rows notes t g (get_or rows i d)) unmarked ∙ sym (get_or-map _ rows i d false l)))
 
-  -- The marks of the before rows.
-  pub before_noted : (l u : ℤ) (notes : List Note) → IsDistinct same_row (map row_key rows) → length rows ≤ 256
-      → take (length rows) (fold (noted rows t g) (unfound l u) notes).before ≡ map (joins_among is_before rows notes t g) rows
-  before_noted l u notes distinct few = marks_all (λ f. f.before) is_before refl marked distinct (unfound l u) notes refl few
-    where
-      marked : (i : ℕ) (e : Effect) (f : Findings) → (with_effect i e f).before ≡ cond (is_before e) (set f.before i true) f.before
-      marked i Nothing f = refl
-      marked i (LowerBelow x) f = refl
-      marked i (RaiseAbove x) f = refl
-      marked i JoinBefore f = refl
-      marked i JoinAfter f = refl
+  map_twice : {X Y Z : Type 0} (h : Y → Z) (f : X → Y) (xs : List X) → map h (map f xs) ≡ map (λ x. h (f x)) xs
+  map_twice h f [] = refl
+  map_twice h f (x ∷ xs) = ap (λ zs. h (f x) ∷ zs) (map_twice h f xs)
 
-  -- The marks of the after rows.
-  pub after_noted : (l u : ℤ) (notes : List Note) → IsDistinct same_row (map row_key rows) → length rows ≤ 256
-      → take (length rows) (fold (noted rows t g) (unfound l u) notes).after ≡ map (joins_among is_after rows notes t g) rows
-  after_noted l u notes distinct few = marks_all (λ f. f.after) is_after refl marked distinct (unfound l u) notes refl few
+  -- Marks are those of rows where each of their two parts is.
+  marks_by : (ms ns : List Marks) → map (λ m. m.before) ms ≡ map (λ m. m.before) ns → map (λ m. m.after) ms ≡ map (λ m. m.after) ns → ms ≡ ns
+  marks_by [] [] b a = refl
+  marks_by [] (n ∷ ns) b a = let z = ap length b in absurd (omega arith)
+  marks_by (m ∷ ms) [] b a = let z = ap length b in absurd (omega arith)
+  marks_by (m ∷ ms) (n ∷ ns) b a =
+      let before : m.before ≡ n.before = ap (λ bs. get_or bs 0 false) b in
+      let after : m.after ≡ n.after = ap (λ bs. get_or bs 0 false) a in
+      let rest = marks_by ms ns (ap (drop 1) b) (ap (drop 1) a) in
+      λ i. record { before = before i; after = after i } ∷ rest i
+
+  -- The marks of the rows, begun without any.
+  pub marks_are : (r : Range) (notes : List Note) → IsDistinct same_row (map row_key rows) → length rows ≤ 256
+      → Marked rows notes t g (fold (noted rows t g) (unfound r) notes)
+  marks_are r notes distinct few =
+      let all = (fold (noted rows t g) (unfound r) notes).marks in
+      let own = marks_among rows notes t g in
+      let before = λ (m : Marks). m.before in
+      let after = λ (m : Marks). m.after in
+      marks_by (take (length rows) all) (map own rows)
+      (sym (take-map before (length rows) all)
+      ∙ (marks_all (λ f. map before f.marks) is_before refl marked_before distinct (unfound r) notes (map-replicate before 256 unmarked) few
+      ∙ sym (map_twice before own rows)))
+      (sym (take-map after (length rows) all)
+      ∙ (marks_all (λ f. map after f.marks) is_after refl marked_after distinct (unfound r) notes (map-replicate after 256 unmarked) few
+      ∙ sym (map_twice after own rows)))
     where
-      marked : (i : ℕ) (e : Effect) (f : Findings) → (with_effect i e f).after ≡ cond (is_after e) (set f.after i true) f.after
-      marked i Nothing f = refl
-      marked i (LowerBelow x) f = refl
-      marked i (RaiseAbove x) f = refl
-      marked i JoinBefore f = refl
-      marked i JoinAfter f = refl
+      marked_before : (i : ℕ) (e : Option Effect) (f : Findings)
+          → map (λ m. m.before) (with_any i e f).marks ≡ cond (is_before e) (set (map (λ m. m.before) f.marks) i true) (map (λ m. m.before) f.marks)
+      marked_before i None f = refl
+      marked_before i (Some (LowerBelow x)) f = refl
+      marked_before i (Some (RaiseAbove x)) f = refl
+      marked_before i (Some JoinBefore) f = map-set (λ m. m.before) f.marks i _
+      marked_before i (Some JoinAfter) f = map-set_same (λ m. m.before) f.marks i _ unmarked refl
+
+      marked_after : (i : ℕ) (e : Option Effect) (f : Findings)
+          → map (λ m. m.after) (with_any i e f).marks ≡ cond (is_after e) (set (map (λ m. m.after) f.marks) i true) (map (λ m. m.after) f.marks)
+      marked_after i None f = refl
+      marked_after i (Some (LowerBelow x)) f = refl
+      marked_after i (Some (RaiseAbove x)) f = refl
+      marked_after i (Some JoinBefore) f = map-set_same (λ m. m.after) f.marks i _ unmarked refl
+      marked_after i (Some JoinAfter) f = map-set (λ m. m.after) f.marks i _

@@ -1,24 +1,34 @@
 -- Bounds that are raised above some numbers, or lowered below some.
 --   raised_append, lowered_append   by numbers and more numbers: by the first, then by the others
 --   raised_least, lowered_most      a bound that is raised does not sink; one that is lowered does not rise
+--   above_each                      what is left above what each line gives, line by line
+--   floors_kept, floors_found       what the lines give that pass a test, or that have a cell
+--   above_reads_is, above_writes_is what is left above all that reads give, or writes
 --   raised_floors                   above what the reads give, then the writes, then the notes
---   raised_more, raised_all         a loop that raises a bound above what each line gives: one turn, and the end
-use Rattle.std.proofs.Common.{◌≡◌, ℕ, ◌+◌, ◌<◌, ◌≤◌, List, [], ◌∷◌, ◌++◌, length, get_or, drop, ℤ, ◌≤ℤ◌, sym, refl, ap, ◌∙◌, arith}
-use Rattle.std.proofs.lemmas.List.{at_drop_more, at_drop_all}
+--   upper_left                      reads and writes leave the upper bound
+use Rattle.std.proofs.Common.{◌≡◌, ℕ, Bool, true, false, cond, List, [], ◌∷◌, ◌++◌, ℤ, pos, ◌≤ℤ◌, Some, None, fold, filter, Option, sym, refl, ap, ◌∙◌, arith}
 use Rattle.std.proofs.lemmas.Int.{ints, clamps}
-use Rattle.std.specs.List.{flat_map}
+use Rattle.std.specs.List.{flat_map, filter_map, cons_option}
+use Rattle.store.specs.Stores.{Cells}
+use Rattle.store.specs.declared.cell.Cell.{Cell}
+use Rattle.lines.specs.declared.access.ReadLine.{ReadLine}
+use Rattle.lines.specs.declared.access.WriteLine.{WriteLine}
 use Rattle.register.specs.Model.{Model}
+use Rattle.register.specs.Ranges.{above_all, above_reads, above_writes}
 use Rattle.register.specs.Validation.{
   raise,
   lower,
   raised_above,
   lowered_below,
+  of_here,
   read_floor,
+  stamps_of,
   write_floor,
   note_effect,
   effect_floor,
   floors,
 }
+use Rattle.register.specs.declared.range.Range.{Range}
 
 -- Raising above some numbers and others is raising above the first, then above the others.
 pub raised_append : (l : ℤ) (xs ys : List ℤ) → raised_above l (xs ++ ys) ≡ raised_above (raised_above l xs) ys
@@ -40,26 +50,67 @@ pub lowered_most : (u : ℤ) (xs : List ℤ) → lowered_below u xs ≤ℤ u
 lowered_most u [] = omega (arith, ints)
 lowered_most u (x ∷ xs) = let h = lowered_most (lower u x) xs in omega (arith, ints, clamps)
 
+-- What is left above what each line gives is left above what all lines give.
+above_each : {X : Type 0} (floor : X → List ℤ) (r : Range) (xs : List X)
+    → fold (λ a x. above_all a (floor x)) r xs ≡ above_all r (flat_map floor xs)
+above_each floor r [] = refl
+above_each floor r (x ∷ xs) =
+    above_each floor (above_all r (floor x)) xs
+    ∙ ap (λ l. record { lower = l; upper = r.upper }) (sym (raised_append r.lower (floor x) (flat_map floor xs)))
+
+-- A line that fails the test gives nothing.
+floors_kept : {X : Type 0} (p : X → Bool) (floor : X → List ℤ) (xs : List X)
+    → flat_map floor (filter p xs) ≡ flat_map (λ x. cond (p x) (floor x) []) xs
+floors_kept p floor [] = refl
+floors_kept p floor (x ∷ xs) = go (p x) (floors_kept p floor xs)
+  where
+    go : (b : Bool) → flat_map floor (filter p xs) ≡ flat_map (λ x. cond (p x) (floor x) []) xs
+        → flat_map floor (cond b (x ∷ filter p xs) (filter p xs)) ≡ cond b (floor x) [] ++ flat_map (λ x. cond (p x) (floor x) []) xs
+    go true later = ap (λ ys. floor x ++ ys) later
+    go false later = later
+
+-- A line without a cell gives nothing.
+floors_found : {X : Type 0} (cell : X → Option Cell) (xs : List X)
+    → flat_map (λ c. stamps_of (Some c)) (filter_map cell xs) ≡ flat_map (λ x. stamps_of (cell x)) xs
+floors_found cell [] = refl
+floors_found cell (x ∷ xs) = go (cell x) (floors_found cell xs)
+  where
+    go : (o : Option Cell) → flat_map (λ c. stamps_of (Some c)) (filter_map cell xs) ≡ flat_map (λ x. stamps_of (cell x)) xs
+        → flat_map (λ c. stamps_of (Some c)) (cons_option o (filter_map cell xs)) ≡ stamps_of o ++ flat_map (λ x. stamps_of (cell x)) xs
+    go None later = later
+    go (Some c) later = ap (λ ys. stamps_of (Some c) ++ ys) later
+
+module _ (t g : ℕ) (r : Range) where
+  -- Line by line, reads leave what lies above all that they give.
+  above_reads_is : (xs : List ReadLine) → above_reads t g r xs ≡ above_all r (flat_map (read_floor t g) xs)
+  above_reads_is xs =
+      let here = λ (x : ReadLine). of_here t g x.transaction x.key in
+      let floor = λ (x : ReadLine). pos x.seen.number ∷ [] in
+      above_each floor r (filter here xs) ∙ ap (above_all r) (floors_kept here floor xs)
+
+  -- So do writes.
+  above_writes_is : (cells : Cells) (xs : List WriteLine)
+      → above_writes cells t g r xs ≡ above_all r (flat_map (write_floor cells t g) xs)
+  above_writes_is cells xs =
+      let here = λ (x : WriteLine). of_here t g x.transaction x.key in
+      let cell = λ (x : WriteLine). cells x.key in
+      above_each (λ (c : Cell). stamps_of (Some c)) r (filter_map cell (filter here xs))
+      ∙ ap (above_all r) (floors_found cell (filter here xs) ∙ floors_kept here (λ (x : WriteLine). stamps_of (cell x)) xs)
+
 -- The floors of a validation are those of its reads, then of its writes, then of its notes.
-pub raised_floors : (m : Model) (t g : ℕ) (l : ℤ)
-    → raised_above (raised_above (raised_above l (flat_map (read_floor t g) m.reads)) (flat_map (write_floor m.cells t g) m.writes))
-    (flat_map (λ n. effect_floor (note_effect m t g n)) m.notes)
-    ≡ raised_above l (floors m t g)
-raised_floors m t g l =
+pub raised_floors : (m : Model) (t g : ℕ) (r : Range)
+    → raised_above (above_writes m.cells t g (above_reads t g r m.reads) m.writes).lower (flat_map (λ n. effect_floor (note_effect m t g n)) m.notes)
+    ≡ raised_above r.lower (floors m t g)
+raised_floors m t g r =
     let reads = flat_map (read_floor t g) m.reads in
     let writes = flat_map (write_floor m.cells t g) m.writes in
     let notes = flat_map (λ n. effect_floor (note_effect m t g n)) m.notes in
-    sym (raised_append l reads (writes ++ notes) ∙ raised_append (raised_above l reads) writes notes)
+    ap (λ (a : Range). raised_above a.lower notes)
+    (ap (λ (a : Range). above_writes m.cells t g a m.writes) (above_reads_is t g r m.reads) ∙ above_writes_is t g _ m.cells m.writes)
+    ∙ sym (raised_append r.lower reads (writes ++ notes) ∙ raised_append (raised_above r.lower reads) writes notes)
 
--- Raising above what the next line gives leaves the lines after it.
-pub raised_more : {X : Type 0} (floor : X → List ℤ) (l r : ℤ) (xs : List X) (i : ℕ) (x : X) → i < length xs → x ≡ get_or xs i x
-    → r ≡ raised_above l (floor x) → raised_above r (flat_map floor (drop (i + 1) xs)) ≡ raised_above l (flat_map floor (drop i xs))
-raised_more floor l r xs i x h e f =
-    let rest = flat_map floor (drop (i + 1) xs) in
-    ap (λ z. raised_above z rest) (f ∙ ap (λ y. raised_above l (floor y)) e)
-    ∙ sym (at_drop_more (λ ys. raised_above l (flat_map floor ys)) xs i x h ∙ raised_append l (floor (get_or xs i x)) rest)
-
--- With no line left the bound is the one so far.
-pub raised_all : {X : Type 0} (floor : X → List ℤ) (l : ℤ) (xs : List X) (i : ℕ) → length xs ≤ i
-    → l ≡ raised_above l (flat_map floor (drop i xs))
-raised_all floor l xs i h = sym (at_drop_all (λ ys. raised_above l (flat_map floor ys)) xs i h)
+-- The upper bound stays as reads and writes are gone through.
+pub upper_left : (m : Model) (t g : ℕ) (r : Range) → (above_writes m.cells t g (above_reads t g r m.reads) m.writes).upper ≡ r.upper
+upper_left m t g r =
+    ap (λ (a : Range). a.upper)
+    (ap (λ (a : Range). above_writes m.cells t g a m.writes) (above_reads_is t g r m.reads) ∙ above_writes_is t g _ m.cells m.writes)

@@ -1,5 +1,7 @@
 -- Registers after a refused call.
---   same_register    two registers with the same parts are the same: what is kept of their rows has one proof
+--   same_register    two registers with the same parts are the same: what is kept of their books has one proof
+--   same_rows        so are two books of rows with the same book
+--   refuses          what holds in any case holds where a call was refused
 --   refused_so       what follows from what holds where a call was refused
 --   added_refused    a book that refused a line is as it was
 use Rattle.std.proofs.Common.{◌≡◌, ◌≤◌, Ok, Err, Result}
@@ -12,6 +14,7 @@ use Rattle.store.specs.Stores.{Refuses}
 use Rattle.wire.specs.declared.refusal.Refusal.{Refusal}
 use Rattle.register.specs.RowBook.{SoundRows}
 use Rattle.register.specs.declared.register.Register.{Register}
+use Rattle.register.specs.declared.row_book.RowBook.{RowBook}
 
 -- Two registers have the same parts.
 pub record SameParts {S P : Type 0} (r s : Register S P) : Type 0 where
@@ -32,11 +35,20 @@ same_register r s e i = record {
   reads = e.reads i;
   writes = e.writes i;
   notes = e.notes i;
-  sound = is_prop→PathP (λ j. ∥ SoundRows (held (e.rows j)) ∥₁) (λ j. ∥∥₁_prop) r.sound s.sound i;
-  limits =
-      is_prop→PathP (λ j. (room (e.rows j) ≤ 256) × (room (e.reads j) ≤ 512) × (room (e.writes j) ≤ 512))
-      (λ j. hlevel props) r.limits s.limits i;
+  limits = is_prop→PathP (λ j. (room (e.reads j) ≤ 512) × (room (e.writes j) ≤ 512)) (λ j. hlevel props) r.limits s.limits i;
 }
+
+-- Two books of rows are the same where their books are: what is kept of their rows has one proof.
+pub same_rows : (r s : RowBook) → r.book ≡ s.book → r ≡ s
+same_rows r s e i = record {
+  book = e i;
+  few = is_prop→PathP (λ j. room (e j) ≤ 256) (λ j. hlevel props) r.few s.few i;
+  sound = is_prop→PathP (λ j. ∥ SoundRows (held (e j)) ∥₁) (λ j. ∥∥₁_prop) r.sound s.sound i;
+}
+
+pub refuses : {A : Type 0} {P : Type 0} (r : Result A Refusal) → P → Refuses r P
+refuses (Ok x) h = tt
+refuses (Err e) h = h
 
 pub refused_so : {A : Type 0} {P Q : Type 0} (r : Result A Refusal) → (P → Q) → Refuses r P → Refuses r Q
 refused_so (Ok x) f h = tt

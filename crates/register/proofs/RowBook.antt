@@ -5,17 +5,19 @@
 --   no_rows_sound     it holds of no rows
 --   sound_added       of rows and the first row of a transaction at a ground
 --   sound_replaced    of rows one of which is replaced by another of its key
---   sound_mapped      of rows that are changed and keep their keys
-use Rattle.std.proofs.Common.{◌≡◌, ℕ, ◌≤◌, min, Bool, true, false, cond, eqb, ℤ, ◌≤ℤ◌, List, [], ◌∷◌, ◌++◌, map, length, IfSome, Some, None, sym, refl, ap, ◌∙◌, subst, arith}
+--   sound_set         of rows one of which is replaced, at its place, by another of its key
+use Rattle.std.proofs.Common.{◌≡◌, ℕ, ◌≤◌, Bool, true, false, cond, eqb, ℤ, ◌≤ℤ◌, List, [], ◌∷◌, ◌++◌, map, length, get_or, set, IfSome, Some, None, sym, refl, ap, ◌∙◌, subst, arith}
 use mathlib.Core.HLevel.{×_prop}
 use mathlib.Core.Logic.{∥∥₁_elim}
 use Rattle.std.proofs.Props.{props}
-use Rattle.std.proofs.ByRecursion.{All-push}
+use Rattle.std.proofs.ByRecursion.{All-push, All-set}
 use Rattle.std.proofs.lemmas.Map.Keys.{IsDistinct-prop}
 use Rattle.std.proofs.lemmas.List.{length-take, map_push}
+use Rattle.std.proofs.Math.Seq.{map-set_same}
 use Rattle.std.proofs.lemmas.Int.{ints}
 use Rattle.std.proofs.lemmas.Bool.{and_parts, eqb-true}
 use Rattle.std.specs.List.{IsDistinct, AllByRecursion}
+use Rattle.wire.proofs.Clash.{clash}
 use Rattle.book.specs.Books.{memory, room, held, line_with}
 use Rattle.book.specs.declared.book.Book.{Book}
 use Rattle.lines.specs.LineKeys.{row_key, same_row}
@@ -51,7 +53,7 @@ rows_sound rs h = record {
 
 -- A book holds no more lines than it has room for.
 pub few_held : {L : Type 0} (b : Book L) (n : ℕ) → room b ≤ n → length (held b) ≤ n
-few_held b n h = let k = length-take (min b.count (room b)) (memory b) in omega arith
+few_held b n h = let k = length-take b.count (memory b) in omega arith
 
 pub bounded_row : (rs : List Row) (t g : ℕ) → AllByRecursion Bounded rs → IfSome (row_of rs t g) Bounded
 bounded_row [] t g h = tt
@@ -75,7 +77,7 @@ distinct_push k (r ∷ rs) e d = go (same_row (row_key r) k) refl e (distinct_pu
     go : (b : Bool) → same_row (row_key r) k ≡ b → cond b (Some r) (line_with same_row row_key k rs) ≡ None
         → (line_with same_row row_key k rs ≡ None → IsDistinct same_row (map row_key rs) → IsDistinct same_row (map row_key rs ++ k ∷ []))
         → AllByRecursion (λ j. same_row (row_key r) j ≡ false) (map row_key rs ++ k ∷ []) × IsDistinct same_row (map row_key rs ++ k ∷ [])
-    go true s h later = let z : ◌≡◌ {A = ℕ} 0 1 = cc in absurd (omega arith)
+    go true s h later = clash cc
     go false s h later = (All-push _ (map row_key rs) k d.0 s, later h d.1)
 
 -- The bounds of a new row are within their limits.
@@ -96,7 +98,7 @@ sound_added rs t g e h =
     }
 
 -- Rows of the same keys are single together.
-pub single_by_keys : (rs ss : List Row) → map row_key rs ≡ map row_key ss → IsDistinct same_row (map row_key rs) → IsDistinct same_row (map row_key ss)
+single_by_keys : (rs ss : List Row) → map row_key rs ≡ map row_key ss → IsDistinct same_row (map row_key rs) → IsDistinct same_row (map row_key ss)
 single_by_keys rs ss e h = let D : List RowKey → Type 0 = IsDistinct same_row in subst D e h
 
 -- Keys that are told the same are equal.
@@ -133,17 +135,9 @@ module _ (k : RowKey) (x : Row) (own : row_key x ≡ k) where
     single = single_by_keys rs _ (keys_replaced rs) s.single;
   }
 
-module _ (f : Row → Row) (keeps : (r : Row) → row_key (f r) ≡ row_key r) (bounds : (r : Row) → Bounded r → Bounded (f r)) where
-  keys_mapped : (rs : List Row) → map row_key rs ≡ map row_key (map f rs)
-  keys_mapped [] = refl
-  keys_mapped (r ∷ rs) = let same = keeps r in let later = keys_mapped rs in cc
-
-  bounded_mapped : (rs : List Row) → AllByRecursion Bounded rs → AllByRecursion Bounded (map f rs)
-  bounded_mapped [] hs = tt
-  bounded_mapped (r ∷ rs) hs = (bounds r hs.0, bounded_mapped rs hs.1)
-
-  pub sound_mapped : (rs : List Row) → SoundRows rs → SoundRows (map f rs)
-  sound_mapped rs s = record {
-    bounded = bounded_mapped rs s.bounded;
-    single = single_by_keys rs _ (keys_mapped rs) s.single;
-  }
+-- A row takes the place of another of its key.
+pub sound_set : (rs : List Row) (i : ℕ) (x d : Row) → row_key x ≡ row_key (get_or rs i d) → Bounded x → SoundRows rs → SoundRows (set rs i x)
+sound_set rs i x d own h s = record {
+  bounded = All-set Bounded rs i x h s.bounded;
+  single = single_by_keys rs (set rs i x) (sym (map-set_same row_key rs i x d own)) s.single;
+}

@@ -4,6 +4,7 @@ use Rattle.std.proofs.Common.{◌≡◌, ℕ, zero, suc, ◌+◌, ◌<◌, ◌�
 use Rattle.std.proofs.lemmas.Bool.{ne_eqb, eq-eqb}
 use Rattle.std.proofs.lemmas.Bool.Decides.{nat_tests}
 use Rattle.std.specs.List.{AllByRecursion, IsDistinct}
+use Rattle.wire.proofs.Clash.{clash}
 use Rattle.book.specs.Books.{place_from}
 use Rattle.lines.specs.LineKeys.{row_key, same_row}
 use Rattle.lines.specs.declared.row.Row.{Row}
@@ -27,7 +28,7 @@ others_apart x xs h = h.1
 
 -- A place that was found, counted from n, is n or above.
 place_least : (k : RowKey) (rows : List Row) (n p : ℕ) → place_from n same_row row_key k rows ≡ Some p → n ≤ p
-place_least k [] n p e = let z : ◌≡◌ {A = ℕ} 0 1 = cc in absurd (omega arith)
+place_least k [] n p e = clash cc
 place_least k (x ∷ xs) n p e = go (same_row (row_key x) k) e (place_least k xs (n + 1) p)
   where
     go : (b : Bool) → cond b (Some n) (place_from (n + 1) same_row row_key k xs) ≡ Some p

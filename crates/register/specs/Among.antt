@@ -5,22 +5,21 @@
 --   joins_among                     whether some note puts a row on a list
 --   befores_among, afters_among     the lowers of the before rows and the uppers of the after rows
 --   pushed_by, pushed_among         a row after a range was taken
-use Rattle.std.specs.Prelude.{ℕ, Bool, cond, ◌&&◌, List, map, ℤ, filter, ◌==◌}
+use Rattle.std.specs.Prelude.{ℕ, Bool, cond, ◌&&◌, List, map, ℤ, None, filter, Option, ◌==◌}
 use Rattle.std.specs.List.{flat_map}
 use Rattle.wire.specs.Keys.{ground_of}
 use Rattle.lines.specs.Locks.{row_of}
 use Rattle.lines.specs.Rows.{with_bounds}
 use Rattle.lines.specs.declared.note.Effect.{Effect}
-use Rattle.lines.specs.declared.note.Effect.TheVariants.{Nothing}
 use Rattle.lines.specs.declared.note.Note.{Note}
 use Rattle.lines.specs.declared.row.Row.{Row}
 use Rattle.register.specs.Checks.{any}
 use Rattle.register.specs.Validation.{other_party, effect_with, effect_floor, effect_ceiling, is_before, is_after, raise, lower}
 
 -- What follows from a note; notes of other grounds say nothing here.
-abbrev pub effect_among : List Row → ℕ → ℕ → Note → Effect
+abbrev pub effect_among : List Row → ℕ → ℕ → Note → Option Effect
 effect_among rows t g n =
-    cond (ground_of n.key == g) (effect_with n t (row_of rows (other_party n t) g)) Nothing
+    cond (ground_of n.key == g) (effect_with n t (row_of rows (other_party n t) g)) None
 
 -- What the notes of a transaction here raise its range above.
 abbrev pub note_floors : List Row → List Note → ℕ → ℕ → List ℤ
@@ -31,7 +30,7 @@ abbrev pub note_ceilings : List Row → List Note → ℕ → ℕ → List ℤ
 note_ceilings rows notes t g = flat_map (λ n. effect_ceiling (effect_among rows t g n)) notes
 
 -- Whether some note puts a row on a list.
-abbrev pub joins_among : (Effect → Bool) → List Row → List Note → ℕ → ℕ → Row → Bool
+abbrev pub joins_among : (Option Effect → Bool) → List Row → List Note → ℕ → ℕ → Row → Bool
 joins_among on rows notes t g r =
     (r.ground == g) && any (λ n. on (effect_among rows t g n) && other_party n t == r.transaction) notes
 

@@ -16,7 +16,7 @@ use Rattle.lines.specs.declared.access.WriteLine.{WriteLine}
 use Rattle.lines.specs.declared.row.Event.{Event}
 use Rattle.lines.specs.declared.row.Row.{Row}
 use Rattle.lines.specs.declared.transaction.Decision.{Decision}
-use Rattle.lines.specs.declared.transaction.Decision.TheVariants.{Open, Committed, Aborted}
+use Rattle.lines.specs.declared.transaction.Decision.TheVariants.{Committed, Aborted}
 use Rattle.register.specs.Checks.{
   after,
   unless,
@@ -46,7 +46,7 @@ abbrev pub begin : Model → ℕ → Model × Result Unit Refusal
 begin m t =
     after m (new_number m t) (λ _.
     after m (unless (has_room m.transactions m.rooms.transactions 1) NoRoom) (λ _.
-    (with_transactions m (m.transactions ++ record { number = t; decision = Open } ∷ []), Ok tt)))
+    (with_transactions m (m.transactions ++ record { number = t; decision = None } ∷ []), Ok tt)))
 
 -- The end of a read, by the read line that is there already: a second read answers what the first did and writes nothing.
 abbrev pub read_by : Option ReadLine → Model → ℕ → ℕ → Cell → Model × Result (ℤ × Stamp) Refusal
@@ -124,48 +124,51 @@ settle m t g =
     after m (row_here (row_of m.rows t g)) (λ r.
     settle_by (moved r e).1 m t g r e))
 
--- A call that answers no more than that it was done.
-abbrev pub done : Result Unit Refusal → Reply
-done (Ok u) = reply.Done
-done (Err e) = reply.Refused e
+-- What a call is answered: a reply, or a refusal.
+abbrev pub Response : Type 0
+Response = Result Reply Refusal
 
--- What a read replies.
-abbrev pub value_reply : Result (ℤ × Stamp) Refusal → Reply
-value_reply (Ok p) = reply.Value p.0 p.1
-value_reply (Err e) = reply.Refused e
+-- An answer that is accepted is told as a reply; a refusal stays one.
+abbrev pub told_as : {A : Type 0} → (A → Reply) → Result A Refusal → Response
+told_as f (Ok x) = Ok (f x)
+told_as f (Err e) = Err e
+
+-- A call that answers no more than that it was done.
+abbrev pub done : Result Unit Refusal → Response
+done = told_as (λ _. reply.Done)
+
+-- What a read is answered.
+abbrev pub value_reply : Result (ℤ × Stamp) Refusal → Response
+value_reply = told_as (λ p. reply.Value p.0 p.1)
 
 -- A range, or that the row is Aborted.
 abbrev pub range_reply : Option (ℤ × ℤ) → Reply
 range_reply None = reply.Aborted
 range_reply (Some p) = reply.Range p.0 p.1
 
--- What a validation replies.
-abbrev pub verdict_reply : Result (Option (ℤ × ℤ)) Refusal → Reply
-verdict_reply (Ok o) = range_reply o
-verdict_reply (Err e) = reply.Refused e
+-- What a validation is answered.
+abbrev pub verdict_reply : Result (Option (ℤ × ℤ)) Refusal → Response
+verdict_reply = told_as range_reply
 
--- A decision that was taken. No decide leaves its transaction open.
+-- A decision that was taken.
 abbrev pub decision_reply : Decision → Reply
-decision_reply Open = reply.Done
 decision_reply (Committed c) = reply.Committed c
 decision_reply Aborted = reply.Aborted
 
--- What a decide replies.
-abbrev pub decide_reply : Result Decision Refusal → Reply
-decide_reply (Ok d) = decision_reply d
-decide_reply (Err e) = reply.Refused e
+-- What a decide is answered.
+abbrev pub decide_reply : Result Decision Refusal → Response
+decide_reply = told_as decision_reply
 
--- What a withdrawal replies.
-abbrev pub withdraw_reply : Result Unit Refusal → Reply
-withdraw_reply (Ok u) = reply.Aborted
-withdraw_reply (Err e) = reply.Refused e
+-- What a withdrawal is answered.
+abbrev pub withdraw_reply : Result Unit Refusal → Response
+withdraw_reply = told_as (λ _. reply.Aborted)
 
--- The register after a call, with the call's answer as a reply.
-abbrev pub replied : {A : Type 0} → (A → Reply) → Model × A → Model × Reply
+-- The register after a call, with the call's answer as a response.
+abbrev pub replied : {A : Type 0} → (A → Response) → Model × A → Model × Response
 replied f p = (p.0, f p.1)
 
 -- One call.
-abbrev pub step : Chooses → Model → Call → Model × Reply
+abbrev pub step : Chooses → Model → Call → Model × Response
 step P m (Begin t) = replied done (begin m t)
 step P m (Read t k) = replied value_reply (read m t k)
 step P m (Prewrite t k v) = replied done (prewrite m t k v)
@@ -179,7 +182,7 @@ abbrev pub left_by : Chooses → Model → List Call → Model
 left_by P m [] = m
 left_by P m (c ∷ cs) = left_by P (step P m c).0 cs
 
--- Their replies.
-abbrev pub replies : Chooses → Model → List Call → List Reply
+-- Their responses.
+abbrev pub replies : Chooses → Model → List Call → List Response
 replies P m [] = []
 replies P m (c ∷ cs) = (step P m c).1 ∷ replies P (step P m c).0 cs

@@ -2,17 +2,16 @@
 --   Case                  the first cells, the rooms, the policy, the calls with their replies, and some cells at the end
 --   outcome c, wanted c   what the model makes of a case, and what the case says of it
 --   Holds c               these are the same
-use Rattle.std.specs.Prelude.{◌≡◌, ℕ, cond, List, [], ◌∷◌, map, ℤ, pos, Some, None, Option, ◌==◌}
+use Rattle.std.specs.Prelude.{◌≡◌, ℕ, cond, List, [], ◌∷◌, map, ℤ, pos, Some, None, Ok, Err, Option, ◌==◌}
 use Rattle.std.specs.Option.{option_map}
 use Rattle.store.specs.Stores.{Cells}
 use Rattle.store.specs.declared.cell.Cell.{Cell}
 use Rattle.wire.specs.Refusals.{number_of}
 use Rattle.wire.specs.Stamps.{stamp}
-use Rattle.register.specs.Calls.{left_by, replies}
+use Rattle.register.specs.Calls.{Response, left_by, replies}
 use Rattle.register.specs.Model.{Chooses, Model, Rooms, new}
 use Rattle.register.specs.declared.call.Call.{Call}
-use Rattle.register.specs.declared.call.Reply.{Reply}
-use Rattle.register.specs.declared.call.Reply.TheVariants.{Done, Value, Range, Committed, Aborted, Refused}
+use Rattle.register.specs.declared.call.Reply.TheVariants.{Done, Value, Range, Committed, Aborted}
 
 -- A cell's value, write stamp and read stamp as numbers.
 abbrev pub Figures : Type 0
@@ -27,7 +26,7 @@ pub record Case : Type 0 where
   pub cells : List (ℕ × Cell)
   pub rooms : Rooms
   pub policy : Chooses
-  pub script : List (Call × Reply)
+  pub script : List (Call × Response)
   pub ends : List (ℕ × Figures)
 
 -- The largest stamp.
@@ -42,26 +41,34 @@ cell v w r = record { value = v; write = stamp w; read = stamp r }
 abbrev pub full : Rooms
 full = record { transactions = 64; rows = 256; reads = 512; writes = 512; notes = 4096 }
 
+-- The reply of a call that answers no more than that it was done.
+abbrev pub done : Response
+done = Ok Done
+
+-- The reply of a validation that failed, of a decision that aborted, and of a withdrawal.
+abbrev pub aborted : Response
+aborted = Ok Aborted
+
 -- The reply of a read: a value and its write stamp.
-abbrev pub value : ℤ → ℕ → Reply
-value v w = Value v (stamp w)
+abbrev pub value : ℤ → ℕ → Response
+value v w = Ok (Value v (stamp w))
 
 -- The reply of a validation that passed.
-abbrev pub range : ℕ → ℕ → Reply
-range l u = Range (pos l) (pos u)
+abbrev pub range : ℕ → ℕ → Response
+range l u = Ok (Range (pos l) (pos u))
 
 -- The reply of a decision that committed.
-abbrev pub commit : ℕ → Reply
-commit c = Committed (stamp c)
+abbrev pub commit : ℕ → Response
+commit c = Ok (Committed (stamp c))
 
--- A reply as numbers, so that two replies compare by their stamps' numbers: which reply it is, and what it holds.
-abbrev pub told : Reply → List ℤ
-told Done = pos 0 ∷ []
-told (Value v s) = pos 1 ∷ v ∷ pos s.number ∷ []
-told (Range l u) = pos 2 ∷ l ∷ u ∷ []
-told (Committed s) = pos 3 ∷ pos s.number ∷ []
-told Aborted = pos 4 ∷ []
-told (Refused r) = pos 5 ∷ pos (number_of r) ∷ []
+-- A response as numbers, so that two compare by their stamps' numbers: which reply or refusal it is, and what it holds.
+abbrev pub told : Response → List ℤ
+told (Ok Done) = pos 0 ∷ []
+told (Ok (Value v s)) = pos 1 ∷ v ∷ pos s.number ∷ []
+told (Ok (Range l u)) = pos 2 ∷ l ∷ u ∷ []
+told (Ok (Committed s)) = pos 3 ∷ pos s.number ∷ []
+told (Ok Aborted) = pos 4 ∷ []
+told (Err r) = pos 5 ∷ pos (number_of r) ∷ []
 
 -- Cells at the keys that a list names, and nothing at others.
 abbrev pub cells_at : List (ℕ × Cell) → Cells

@@ -11,7 +11,9 @@
 --   cell_here         refusal 11: the cell of a key
 --   new_number        refusal 1: a number above all begun, up to 4,095
 --   room_for          refusal 2: room for so many more lines
-use Rattle.std.specs.Prelude.{ℕ, ◌+◌, Bool, true, false, cond, ◌&&◌, ◌||◌, List, [], ◌∷◌, map, length, Some, None, Ok, Err, Option, Result, ◌==◌, nat_eq, nat_le, nat_lt}
+use Rattle.std.specs.Prelude.{ℕ, ◌+◌, Bool, true, false, cond, ◌&&◌, List, map, length, Some, None, Ok, Err, Option, Result, ◌==◌, nat_eq, nat_le, nat_lt}
+-- Some line passes a test.
+pub use Rattle.std.specs.List.{list_any as any}
 use Rattle.std.specs.Option.{unwrap_or}
 use Rattle.wire.specs.declared.refusal.Refusal.{Refusal}
 use Rattle.wire.specs.declared.refusal.Refusal.TheVariants.{
@@ -35,7 +37,7 @@ use Rattle.lines.specs.declared.row.Row.{Row}
 use Rattle.lines.specs.declared.row.State.{State}
 use Rattle.lines.specs.declared.row.State.TheVariants as state
 use Rattle.lines.specs.declared.transaction.Decision.{Decision}
-use Rattle.lines.specs.declared.transaction.Decision.TheVariants.{Open, Committed, Aborted}
+use Rattle.lines.specs.declared.transaction.Decision.TheVariants.{Committed, Aborted}
 use Rattle.lines.specs.declared.transaction.Transaction.{Transaction}
 use Rattle.register.specs.Model.{Model, transaction_of}
 use Rattle.std.specs.Ordering.{nat_cmp}
@@ -49,11 +51,6 @@ after m (Err e) f = (m, Err e)
 abbrev pub unless : Bool → Refusal → Result Unit Refusal
 unless b e = cond b (Ok tt) (Err e)
 
--- Some line passes a test.
-abbrev pub any : {X : Type 0} → (X → Bool) → List X → Bool
-any p [] = false
-any p (x ∷ xs) = p x || any p xs
-
 -- The largest number begun, 0 where there is none.
 abbrev pub last_begun : Model → ℕ
 last_begun m = unwrap_or (greatest nat_cmp (map (λ x. x.number) m.transactions)) 0
@@ -63,10 +60,9 @@ abbrev pub new_number : Model → ℕ → Result Unit Refusal
 new_number m t = unless (nat_lt (last_begun m) t && nat_le t 4095) BadNumber
 
 -- Whether a decision is still to come.
-abbrev pub open_decision : Decision → Result Unit Refusal
-open_decision Open = Ok tt
-open_decision (Committed c) = Err AlreadyDecided
-open_decision Aborted = Err AlreadyDecided
+abbrev pub open_decision : Option Decision → Result Unit Refusal
+open_decision None = Ok tt
+open_decision (Some d) = Err AlreadyDecided
 
 -- A transaction's line, where it was begun and is not decided.
 abbrev pub open_line : Option Transaction → Result Unit Refusal
@@ -78,10 +74,10 @@ abbrev pub open_now : Model → ℕ → Result Unit Refusal
 open_now m t = open_line (transaction_of m t)
 
 -- What a decision that was taken means for a row: it is settled as committed or as aborted.
-abbrev pub event_of : Decision → Result Event Refusal
-event_of Open = Err NotDecided
-event_of (Committed c) = Ok (Commit c)
-event_of Aborted = Ok Abort
+abbrev pub event_of : Option Decision → Result Event Refusal
+event_of None = Err NotDecided
+event_of (Some (Committed c)) = Ok (Commit c)
+event_of (Some Aborted) = Ok Abort
 
 -- The same of a transaction's line, where it was begun.
 abbrev pub decided_line : Option Transaction → Result Event Refusal

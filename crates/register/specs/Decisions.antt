@@ -53,7 +53,7 @@ decision_by m t = decision_of (rows_of m t)
 -- The register with a transaction's decision.
 abbrev pub decided_as : Model → ℕ → Decision → Model
 decided_as m t d =
-    with_transactions m (replaced eqb (λ x. x.number) t (record { number = t; decision = d }) m.transactions)
+    with_transactions m (replaced eqb (λ x. x.number) t (record { number = t; decision = Some d }) m.transactions)
 
 -- The larger of two stamps.
 abbrev pub later : Stamp → Stamp → Stamp

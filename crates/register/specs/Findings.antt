@@ -1,42 +1,53 @@
 -- What a pass over the notes finds for a transaction t at a ground g.
---   unfound l u            the range from l to u, and no row that has to make way
+--   unmarked               the marks of a row that has not to make way
+--   unfound r              the range r, and no row that has to make way
+--   marks_at f i           the marks that f has at the place i
 --   with_effect i e f      the findings f with what follows from the effect e of a note whose other party's row has the place i
+--   with_any i e f         the same where there may be no effect
 --   FitsEffect e           the bound of the effect e is one that a row can have
 --   place_of rows t g      the place of the row of transaction t at ground g, or nothing
 --   noted rows t g f n     the findings f with what follows from the note n
+--   marks_among            which of the two lists some note puts a row on
 --   Marked rows notes t g f   the marks of f are those of the rows that the notes put on the before list and on the after list
 --   MadeWay, TookRange   the rows after the marked ones made way, and after the range was taken
---   gathered b             the bounds that were gathered, in their order
 --   Located rows t g n r   r is what follows from the note n with the place of the other party's row, or nothing
-use Rattle.std.specs.Prelude.{◌≡◌, ℕ, ◌<◌, true, false, List, map, length, take, replicate, ℤ, pos, ◌≤ℤ◌, Some, None, Option, slice_set}
+use Rattle.std.specs.Prelude.{◌≡◌, ℕ, ◌<◌, true, false, List, map, length, take, replicate, ℤ, pos, ◌≤ℤ◌, Some, None, Option, slice_index_or, slice_set}
 use Rattle.std.specs.Option.{unwrap_or}
 use Rattle.book.specs.Books.{place}
 use Rattle.lines.specs.LineKeys.{row_key, same_row}
 use Rattle.lines.specs.declared.note.Effect.{Effect}
-use Rattle.lines.specs.declared.note.Effect.TheVariants.{Nothing, LowerBelow, RaiseAbove, JoinBefore, JoinAfter}
+use Rattle.lines.specs.declared.note.Effect.TheVariants.{LowerBelow, RaiseAbove, JoinBefore, JoinAfter}
 use Rattle.lines.specs.declared.note.Note.{Note}
 use Rattle.lines.specs.declared.row.Event.TheVariants.{Pass}
 use Rattle.lines.specs.declared.row.Row.{Row}
-use Rattle.register.specs.Validation.{raise, lower, other_party, is_before, is_after, row_moved}
+use Rattle.register.specs.Ranges.{above, below}
+use Rattle.register.specs.Validation.{other_party, is_before, is_after, row_moved}
 use Rattle.register.specs.Among.{effect_among, joins_among, befores_among, afters_among, pushed_among}
+use Rattle.register.specs.declared.range.Range.{Range}
 use Rattle.register.specs.declared.validation.findings.Findings.{Findings}
-use Rattle.register.specs.declared.validation.neighbours.RowBounds.{RowBounds}
+use Rattle.register.specs.declared.validation.findings.Marks.{Marks}
+
+-- No mark.
+abbrev pub unmarked : Marks
+unmarked = record { before = false; after = false }
 
 -- A range, and no row that has to make way.
-abbrev pub unfound : ℤ → ℤ → Findings
-unfound l u = record { lower = l; upper = u; before = replicate 256 false; after = replicate 256 false }
+abbrev pub unfound : Range → Findings
+unfound r = record { range = r; marks = replicate 256 unmarked }
 
--- A bound moves, or the row at the place i is marked.
+-- The marks of the row at the place i.
+abbrev pub marks_at : Findings → ℕ → Marks
+marks_at f i = slice_index_or f.marks i unmarked
+
+-- A bound moves, or the row at the place i is marked beside the marks that it has.
 abbrev pub with_effect : ℕ → Effect → Findings → Findings
-with_effect i Nothing f = f
-with_effect i (LowerBelow x) f = record { lower = f.lower; upper = lower f.upper x; before = f.before; after = f.after }
-with_effect i (RaiseAbove x) f = record { lower = raise f.lower x; upper = f.upper; before = f.before; after = f.after }
-with_effect i JoinBefore f = record { lower = f.lower; upper = f.upper; before = slice_set f.before i true; after = f.after }
-with_effect i JoinAfter f = record { lower = f.lower; upper = f.upper; before = f.before; after = slice_set f.after i true }
+with_effect i (LowerBelow x) f = record f { range = below f.range x }
+with_effect i (RaiseAbove x) f = record f { range = above f.range x }
+with_effect i JoinBefore f = record f { marks = slice_set f.marks i (record (marks_at f i) { before = true }) }
+with_effect i JoinAfter f = record f { marks = slice_set f.marks i (record (marks_at f i) { after = true }) }
 
 -- A lower bound is at least 0 and an upper bound at most TOP.
 abbrev pub FitsEffect : Effect → Type 0
-FitsEffect Nothing = Unit {0}
 FitsEffect (LowerBelow x) = pos 0 ≤ℤ x
 FitsEffect (RaiseAbove x) = x ≤ℤ pos 268435455
 FitsEffect JoinBefore = Unit {0}
@@ -46,24 +57,28 @@ FitsEffect JoinAfter = Unit {0}
 abbrev pub place_of : List Row → (transaction ground : ℕ) → Option ℕ
 place_of rows t g = place same_row row_key (record { transaction = t; ground = g }) rows
 
+-- What follows from a note, if anything does, is added.
+abbrev pub with_any : ℕ → Option Effect → Findings → Findings
+with_any i None f = f
+with_any i (Some e) f = with_effect i e f
+
 -- What follows from a note is added. Where the other party has no row nothing does, so that its place does not matter.
 abbrev pub noted : List Row → ℕ → ℕ → Findings → Note → Findings
-noted rows t g f n = with_effect (unwrap_or (place_of rows (other_party n t) g) 0) (effect_among rows t g n) f
+noted rows t g f n = with_any (unwrap_or (place_of rows (other_party n t) g) 0) (effect_among rows t g n) f
 
 -- What follows from a note, with the place of the other party's row.
 abbrev pub Located : List Row → ℕ → ℕ → Note → Option (ℕ × Effect) → Type 0
-Located rows t g n None = effect_among rows t g n ≡ Nothing
+Located rows t g n None = effect_among rows t g n ≡ None
 Located rows t g n (Some p) =
-    (p.0 < length rows) × (place_of rows (other_party n t) g ≡ Some p.0) × (effect_among rows t g n ≡ p.1)
+    (p.0 < length rows) × (place_of rows (other_party n t) g ≡ Some p.0) × (effect_among rows t g n ≡ Some p.1)
 
--- At the place of each row stands whether some note puts it on the list.
-pub record Marked (rows : List Row) (notes : List Note) (t g : ℕ) (f : Findings) : Type 0 where
-  pub before : take (length rows) f.before ≡ map (joins_among is_before rows notes t g) rows
-  pub after : take (length rows) f.after ≡ map (joins_among is_after rows notes t g) rows
+-- Whether some note puts a row on each of the two lists.
+abbrev pub marks_among : List Row → List Note → ℕ → ℕ → Row → Marks
+marks_among rows notes t g r = record { before = joins_among is_before rows notes t g r; after = joins_among is_after rows notes t g r }
 
--- The marks are those of some notes.
-abbrev pub MarkedByNotes : List Row → Findings → Type 0
-MarkedByNotes rows f = (notes : List Note) × ((t : ℕ) × ((g : ℕ) × Marked rows notes t g f))
+-- At the place of each row stands whether some note puts it on the lists.
+abbrev pub Marked : List Row → List Note → (t g : ℕ) → Findings → Type 0
+Marked rows notes t g f = take (length rows) f.marks ≡ map (marks_among rows notes t g) rows
 
 -- The rows after the marked ones made way for a range.
 abbrev pub MadeWay : List Row → Findings → ℤ × ℤ → List Row → Type 0
@@ -76,14 +91,10 @@ TookRange rows r f range after =
     (notes : List Note) (t g : ℕ) → Marked rows notes t g f
     → after ≡ row_moved r.transaction r.ground r (Pass range.0 range.1) (map (pushed_among rows notes t g range) rows)
 
--- The bounds that were gathered, in their order.
-abbrev pub gathered : RowBounds → List ℤ
-gathered b = take b.count b.values
-
 -- These are the lowers of the rows that are marked before.
-abbrev pub BeforesOf : List Row → Findings → RowBounds → Type 0
-BeforesOf rows f b = (notes : List Note) (t g : ℕ) → Marked rows notes t g f → gathered b ≡ befores_among rows notes t g
+abbrev pub BeforesOf : List Row → Findings → List ℤ → Type 0
+BeforesOf rows f b = (notes : List Note) (t g : ℕ) → Marked rows notes t g f → b ≡ befores_among rows notes t g
 
 -- These are the uppers of the rows that are marked after.
-abbrev pub AftersOf : List Row → Findings → RowBounds → Type 0
-AftersOf rows f b = (notes : List Note) (t g : ℕ) → Marked rows notes t g f → gathered b ≡ afters_among rows notes t g
+abbrev pub AftersOf : List Row → Findings → List ℤ → Type 0
+AftersOf rows f b = (notes : List Note) (t g : ℕ) → Marked rows notes t g f → b ≡ afters_among rows notes t g

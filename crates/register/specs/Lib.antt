@@ -10,8 +10,8 @@ pub mod Findings
 pub mod LaterDays
 pub mod Meetings
 pub mod Model
-pub mod NotesByLines
 pub mod Noting
+pub mod Ranges
 pub mod Registers
 pub mod Room
 pub mod RowBook

@@ -1,32 +1,14 @@
--- The notes for the soft locks that a call meets, line by line of a book.
---   note_between e a u       the note for an access a that meets the lock of u
---   note_met e a rows x      the note for the line of key x, where it stands as a lock that a meets
---   notes_met e a rows xs    those of all lines, in their order
-use Rattle.std.specs.Prelude.{ℕ, cond, ◌&&◌, List, [], ◌∷◌, Some, None, Option, ◌==◌}
-use Rattle.lines.specs.Locks.{lock_stands}
-use Rattle.lines.specs.declared.access.AccessKey.{AccessKey}
+-- The notes for the soft locks that a call meets, where a closure gives the note for each holder.
+--   Gives post n             the closure gives the note n u for the holder u, or nothing
+--   Gathers post old us new  the notes for the holders us were added to the old ones
+use Rattle.std.specs.Prelude.{◌≡◌, ℕ, ◌^◌, ◌<◌, List, ◌++◌, Option}
+use Rattle.std.specs.List.{filter_map}
 use Rattle.lines.specs.declared.note.Note.{Note}
-use Rattle.lines.specs.declared.row.Row.{Row}
-use Rattle.register.specs.Noting.{before_note, apart_note}
-use Rattle.register.specs.declared.noting.meeting.Meeting.{Meeting}
-use Rattle.register.specs.declared.noting.meeting.Meeting.TheVariants.{ReadMeetsWrite, WriteMeetsRead, WriteMeetsWrite}
 
--- A reader comes before a writer, two writers are apart, and a prewrite passes by the locks of its own transaction.
-abbrev pub note_between : Meeting → AccessKey → ℕ → Option Note
-note_between ReadMeetsWrite a u = Some (before_note a.key a.transaction u)
-note_between WriteMeetsRead a u = cond (u == a.transaction) None (Some (before_note a.key u a.transaction))
-note_between WriteMeetsWrite a u = cond (u == a.transaction) None (Some (apart_note a.key a.transaction u))
+-- What a call of the closure gives, by its post: a transaction's number has 32 bits.
+abbrev pub Gives : (ℕ → Option Note → Type 0) → (ℕ → Option Note) → Type 0
+Gives post n = (u : ℕ) (r : Option Note) → u < 2 ^ 32 → post u r → r ≡ n u
 
--- A line that is no lock on the key is passed by.
-abbrev pub note_met : Meeting → AccessKey → List Row → AccessKey → Option Note
-note_met e a rows x = cond (x.key == a.key && lock_stands rows x.transaction a.key) (note_between e a x.transaction) None
-
--- A note before others, if there is one.
-abbrev pub noted : Option Note → List Note → List Note
-noted None ns = ns
-noted (Some n) ns = n ∷ ns
-
--- The notes for some lines.
-abbrev pub notes_met : Meeting → AccessKey → List Row → List AccessKey → List Note
-notes_met e a rows [] = []
-notes_met e a rows (x ∷ xs) = noted (note_met e a rows x) (notes_met e a rows xs)
+-- In the order of the holders, without those for whom it gives nothing.
+abbrev pub Gathers : (ℕ → Option Note → Type 0) → List Note → List ℕ → List Note → Type 0
+Gathers post old us new = (n : ℕ → Option Note) → Gives post n → new ≡ old ++ filter_map n us

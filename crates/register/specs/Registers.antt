@@ -22,13 +22,13 @@ abbrev pub model : {S P : Type 0} → (S → Cells) → Register S P → Model
 model cells r = record {
   cells = cells r.store;
   transactions = held r.transactions;
-  rows = held r.rows;
+  rows = held r.rows.book;
   reads = held r.reads;
   writes = held r.writes;
   notes = held r.notes;
   rooms = record {
     transactions = room r.transactions;
-    rows = room r.rows;
+    rows = room r.rows.book;
     reads = room r.reads;
     writes = room r.writes;
     notes = room r.notes;
@@ -55,7 +55,7 @@ pub record Keeps {S P : Type 0} (lent : S → List ℕ) (r s : Register S P) : T
   pub policy : s.policy ≡ r.policy
   pub store : lent s.store ≡ lent r.store
   pub transactions : Stays r.transactions s.transactions
-  pub rows : Stays r.rows s.rows
+  pub rows : Stays r.rows.book s.rows.book
   pub reads : Stays r.reads s.reads
   pub writes : Stays r.writes s.writes
   pub notes : Stays r.notes s.notes
@@ -79,5 +79,5 @@ pub record KeepsButRows {S P : Type 0} (r s : Register S P) : Type 0 where
 -- A range is what the policy takes of what was found for any transaction whose notes the marks are of.
 abbrev pub Takes : {S P : Type 0} → (S → Cells) → (P → Chooses) → Register S P → Findings → ℤ × ℤ → Type 0
 Takes cells chosen r f range =
-    (t g : ℕ) → Marked (held r.rows) (held r.notes) t g f
-    → range ≡ chosen r.policy f.lower f.upper (befores (model cells r) t g) (afters (model cells r) t g)
+    (t g : ℕ) → Marked (held r.rows.book) (held r.notes) t g f
+    → range ≡ chosen r.policy f.range.lower f.range.upper (befores (model cells r) t g) (afters (model cells r) t g)

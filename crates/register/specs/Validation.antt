@@ -5,6 +5,7 @@
 use Rattle.std.specs.Prelude.{ℕ, Bool, true, false, cond, ◌&&◌, List, [], ◌∷◌, ◌++◌, map, ℤ, pos, ◌+ℤ◌, ◌-ℤ◌, Some, None, filter, Option, ◌==◌}
 use Rattle.std.specs.Int.{int_max, int_min}
 use Rattle.std.specs.List.{flat_map}
+use Rattle.std.specs.Option.{option_and_then}
 use Rattle.store.specs.Stores.{Cells}
 use Rattle.store.specs.declared.cell.Cell.{Cell}
 use Rattle.wire.specs.Keys.{ground_of}
@@ -15,7 +16,7 @@ use Rattle.lines.specs.Rows.{moved, with_bounds}
 use Rattle.lines.specs.declared.access.ReadLine.{ReadLine}
 use Rattle.lines.specs.declared.access.WriteLine.{WriteLine}
 use Rattle.lines.specs.declared.note.Effect.{Effect}
-use Rattle.lines.specs.declared.note.Effect.TheVariants.{Nothing, LowerBelow, RaiseAbove, JoinBefore, JoinAfter}
+use Rattle.lines.specs.declared.note.Effect.TheVariants.{LowerBelow, RaiseAbove, JoinBefore, JoinAfter}
 use Rattle.lines.specs.declared.note.Note.{Note}
 use Rattle.lines.specs.declared.row.Event.{Event}
 use Rattle.lines.specs.declared.row.Event.TheVariants.{Pass, Fail}
@@ -63,46 +64,45 @@ abbrev pub other_party : Note → ℕ → ℕ
 other_party n t = cond (n.first == t) n.second n.first
 
 -- What follows from a note whose other party has this row at the ground.
-abbrev pub effect_with : Note → ℕ → Option Row → Effect
-effect_with n t None = Nothing
-effect_with n t (Some r) = effect_of n t r
+abbrev pub effect_with : Note → ℕ → Option Row → Option Effect
+effect_with n t o = option_and_then (effect_of n t) o
 
 -- What follows from a note; notes of other grounds say nothing here.
-abbrev pub note_effect : Model → ℕ → ℕ → Note → Effect
+abbrev pub note_effect : Model → ℕ → ℕ → Note → Option Effect
 note_effect m t g n =
-    cond (ground_of n.key == g) (effect_with n t (row_of m.rows (other_party n t) g)) Nothing
+    cond (ground_of n.key == g) (effect_with n t (row_of m.rows (other_party n t) g)) None
 
--- The bound that an effect raises the range above.
-abbrev pub effect_floor : Effect → List ℤ
-effect_floor Nothing = []
-effect_floor (LowerBelow x) = []
-effect_floor (RaiseAbove x) = x ∷ []
-effect_floor JoinBefore = []
-effect_floor JoinAfter = []
+-- The bound that what follows from a note raises the range above, if it does.
+abbrev pub effect_floor : Option Effect → List ℤ
+effect_floor None = []
+effect_floor (Some (LowerBelow x)) = []
+effect_floor (Some (RaiseAbove x)) = x ∷ []
+effect_floor (Some JoinBefore) = []
+effect_floor (Some JoinAfter) = []
 
--- The bound that an effect lowers the range below.
-abbrev pub effect_ceiling : Effect → List ℤ
-effect_ceiling Nothing = []
-effect_ceiling (LowerBelow x) = x ∷ []
-effect_ceiling (RaiseAbove x) = []
-effect_ceiling JoinBefore = []
-effect_ceiling JoinAfter = []
+-- The bound that it lowers the range below, if it does.
+abbrev pub effect_ceiling : Option Effect → List ℤ
+effect_ceiling None = []
+effect_ceiling (Some (LowerBelow x)) = x ∷ []
+effect_ceiling (Some (RaiseAbove x)) = []
+effect_ceiling (Some JoinBefore) = []
+effect_ceiling (Some JoinAfter) = []
 
--- Whether an effect puts the other row on the before list.
-abbrev pub is_before : Effect → Bool
-is_before Nothing = false
-is_before (LowerBelow x) = false
-is_before (RaiseAbove x) = false
-is_before JoinBefore = true
-is_before JoinAfter = false
+-- Whether it puts the other row on the before list.
+abbrev pub is_before : Option Effect → Bool
+is_before None = false
+is_before (Some (LowerBelow x)) = false
+is_before (Some (RaiseAbove x)) = false
+is_before (Some JoinBefore) = true
+is_before (Some JoinAfter) = false
 
--- Whether an effect puts the other row on the after list.
-abbrev pub is_after : Effect → Bool
-is_after Nothing = false
-is_after (LowerBelow x) = false
-is_after (RaiseAbove x) = false
-is_after JoinBefore = false
-is_after JoinAfter = true
+-- Whether it puts the other row on the after list.
+abbrev pub is_after : Option Effect → Bool
+is_after None = false
+is_after (Some (LowerBelow x)) = false
+is_after (Some (RaiseAbove x)) = false
+is_after (Some JoinBefore) = false
+is_after (Some JoinAfter) = true
 
 -- What the range has to lie above: by the reads, the writes and the notes of the transaction here.
 abbrev pub floors : Model → ℕ → ℕ → List ℤ
@@ -115,7 +115,7 @@ abbrev pub ceilings : Model → ℕ → ℕ → List ℤ
 ceilings m t g = flat_map (λ n. effect_ceiling (note_effect m t g n)) m.notes
 
 -- Whether some note puts a row on a list.
-abbrev pub joins : (Effect → Bool) → Model → ℕ → ℕ → Row → Bool
+abbrev pub joins : (Option Effect → Bool) → Model → ℕ → ℕ → Row → Bool
 joins on m t g r =
     (r.ground == g) && any (λ n. on (note_effect m t g n) && other_party n t == r.transaction) m.notes
 

@@ -2,8 +2,7 @@
 use Rattle.std.specs.Prelude.{List, [], ◌∷◌, pos, negsuc}
 use Rattle.policy.specs.Ranges.{whole_range, near_range}
 use Rattle.register.specs.declared.call.Call.TheVariants.{Begin, Read, Prewrite, Validate, Decide, Settle}
-use Rattle.register.specs.declared.call.Reply.TheVariants.{Done, Aborted}
-use Rattle.register.specs.Cases.{Case, cell, full, top, value, range, commit}
+use Rattle.register.specs.Cases.{Case, cell, full, top, value, range, commit, aborted, done}
 
 -- A reader alone: 1 to TOP, commit at 1.
 abbrev pub reader_alone : Case
@@ -12,7 +11,7 @@ reader_alone = record {
   rooms = full;
   policy = whole_range;
   script =
-      (Begin 1, Done) ∷ (Read 1 0, value (pos 0) 0) ∷ (Validate 1 0, range 1 top) ∷ (Decide 1, commit 1) ∷ [];
+      (Begin 1, done) ∷ (Read 1 0, value (pos 0) 0) ∷ (Validate 1 0, range 1 top) ∷ (Decide 1, commit 1) ∷ [];
   ends = [];
 }
 
@@ -23,9 +22,9 @@ writer_after = record {
   rooms = full;
   policy = whole_range;
   script =
-      (Begin 1, Done) ∷ (Read 1 0, value (pos 0) 0) ∷ (Validate 1 0, range 1 top) ∷ (Decide 1, commit 1) ∷
-      (Settle 1 0, Done) ∷ (Begin 2, Done) ∷ (Prewrite 2 0 (negsuc 6), Done) ∷ (Validate 2 0, range 2 top) ∷
-      (Decide 2, commit 2) ∷ (Settle 2 0, Done) ∷ [];
+      (Begin 1, done) ∷ (Read 1 0, value (pos 0) 0) ∷ (Validate 1 0, range 1 top) ∷ (Decide 1, commit 1) ∷
+      (Settle 1 0, done) ∷ (Begin 2, done) ∷ (Prewrite 2 0 (negsuc 6), done) ∷ (Validate 2 0, range 2 top) ∷
+      (Decide 2, commit 2) ∷ (Settle 2 0, done) ∷ [];
   ends = (0, ((negsuc 6), 2, 1)) ∷ [];
 }
 
@@ -36,8 +35,8 @@ beside_validated = record {
   rooms = full;
   policy = whole_range;
   script =
-      (Begin 1, Done) ∷ (Prewrite 1 4 (pos 5), Done) ∷ (Validate 1 0, range 141 top) ∷ (Begin 2, Done) ∷
-      (Read 2 4, value (pos 0) 0) ∷ (Prewrite 2 0 (pos 9), Done) ∷ (Validate 2 0, range 124 140) ∷ (Begin 3, Done) ∷
+      (Begin 1, done) ∷ (Prewrite 1 4 (pos 5), done) ∷ (Validate 1 0, range 141 top) ∷ (Begin 2, done) ∷
+      (Read 2 4, value (pos 0) 0) ∷ (Prewrite 2 0 (pos 9), done) ∷ (Validate 2 0, range 124 140) ∷ (Begin 3, done) ∷
       (Read 3 0, value (pos 8) 101) ∷ (Validate 3 0, range 102 123) ∷ [];
   ends = [];
 }
@@ -49,7 +48,7 @@ writer_after_readers = record {
   rooms = full;
   policy = whole_range;
   script =
-      (Begin 1, Done) ∷ (Prewrite 1 0 (pos 5), Done) ∷ (Validate 1 0, range 75 top) ∷ [];
+      (Begin 1, done) ∷ (Prewrite 1 0 (pos 5), done) ∷ (Validate 1 0, range 75 top) ∷ [];
   ends = [];
 }
 
@@ -60,8 +59,8 @@ reader_writer_whole = record {
   rooms = full;
   policy = whole_range;
   script =
-      (Begin 1, Done) ∷ (Begin 2, Done) ∷ (Read 1 0, value (pos 0) 0) ∷ (Prewrite 2 0 (pos 7), Done) ∷
-      (Validate 1 0, range 1 top) ∷ (Validate 2 0, Aborted) ∷ [];
+      (Begin 1, done) ∷ (Begin 2, done) ∷ (Read 1 0, value (pos 0) 0) ∷ (Prewrite 2 0 (pos 7), done) ∷
+      (Validate 1 0, range 1 top) ∷ (Validate 2 0, aborted) ∷ [];
   ends = [];
 }
 
@@ -72,7 +71,7 @@ reader_writer_near = record {
   rooms = full;
   policy = near_range;
   script =
-      (Begin 1, Done) ∷ (Begin 2, Done) ∷ (Read 1 0, value (pos 0) 0) ∷ (Prewrite 2 0 (pos 7), Done) ∷
+      (Begin 1, done) ∷ (Begin 2, done) ∷ (Read 1 0, value (pos 0) 0) ∷ (Prewrite 2 0 (pos 7), done) ∷
       (Validate 1 0, range 1 1024) ∷ (Validate 2 0, range 1025 top) ∷ [];
   ends = [];
 }
@@ -84,9 +83,9 @@ two_writers = record {
   rooms = full;
   policy = near_range;
   script =
-      (Begin 1, Done) ∷ (Begin 2, Done) ∷ (Prewrite 1 0 (pos 10), Done) ∷ (Prewrite 2 0 (pos 20), Done) ∷
+      (Begin 1, done) ∷ (Begin 2, done) ∷ (Prewrite 1 0 (pos 10), done) ∷ (Prewrite 2 0 (pos 20), done) ∷
       (Validate 2 0, range 1 1024) ∷ (Validate 1 0, range 1025 top) ∷ (Decide 1, commit 1025) ∷ (Decide 2, commit 1) ∷
-      (Settle 1 0, Done) ∷ (Settle 2 0, Done) ∷ [];
+      (Settle 1 0, done) ∷ (Settle 2 0, done) ∷ [];
   ends = (0, ((pos 10), 1025, 0)) ∷ [];
 }
 
@@ -97,9 +96,9 @@ ranges_apart = record {
   rooms = full;
   policy = near_range;
   script =
-      (Begin 1, Done) ∷ (Begin 2, Done) ∷ (Read 1 0, value (pos 0) 0) ∷ (Read 2 8192, value (pos 0) 0) ∷
-      (Prewrite 1 8192 (pos 5), Done) ∷ (Prewrite 2 0 (pos 6), Done) ∷ (Validate 1 0, range 1 1024) ∷
-      (Validate 2 1, range 1 1024) ∷ (Validate 1 1, range 1025 top) ∷ (Decide 1, Aborted) ∷ [];
+      (Begin 1, done) ∷ (Begin 2, done) ∷ (Read 1 0, value (pos 0) 0) ∷ (Read 2 8192, value (pos 0) 0) ∷
+      (Prewrite 1 8192 (pos 5), done) ∷ (Prewrite 2 0 (pos 6), done) ∷ (Validate 1 0, range 1 1024) ∷
+      (Validate 2 1, range 1 1024) ∷ (Validate 1 1, range 1025 top) ∷ (Decide 1, aborted) ∷ [];
   ends = [];
 }
 
@@ -110,7 +109,7 @@ last_stamp_taken = record {
   rooms = full;
   policy = whole_range;
   script =
-      (Begin 1, Done) ∷ (Read 1 0, value (pos 3) top) ∷ (Validate 1 0, Aborted) ∷ (Decide 1, Aborted) ∷ [];
+      (Begin 1, done) ∷ (Read 1 0, value (pos 3) top) ∷ (Validate 1 0, aborted) ∷ (Decide 1, aborted) ∷ [];
   ends = [];
 }
 
@@ -121,7 +120,7 @@ last_stamp_left = record {
   rooms = full;
   policy = whole_range;
   script =
-      (Begin 1, Done) ∷ (Read 1 0, value (pos 3) 268435454) ∷ (Validate 1 0, range top top) ∷ (Decide 1, commit top) ∷ [];
+      (Begin 1, done) ∷ (Read 1 0, value (pos 3) 268435454) ∷ (Validate 1 0, range top top) ∷ (Decide 1, commit top) ∷ [];
   ends = [];
 }
 

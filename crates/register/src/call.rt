@@ -1,4 +1,3 @@
-use wire::refusal::Refusal;
 use wire::stamp::Stamp;
 
 // A call on a register.
@@ -32,7 +31,7 @@ pub enum Call {
     },
 }
 
-// What a call is answered.
+// What a call is answered that is not refused.
 #[derive(Clone, Copy, PartialEq, Eq, Debug)]
 pub enum Reply {
     Done,
@@ -40,5 +39,4 @@ pub enum Reply {
     Range { lower: i32, upper: i32 },
     Committed { stamp: Stamp },
     Aborted,
-    Refused { refusal: Refusal },
 }

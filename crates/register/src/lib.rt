@@ -3,7 +3,10 @@
 
 pub mod call;
 pub mod cases;
+mod gathered;
 mod noting;
+mod range;
 pub mod register;
 mod replacing;
+mod row_book;
 mod validation;

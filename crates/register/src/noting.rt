@@ -4,16 +4,12 @@
 ghost use Rattle.std.specs.Prelude.{◌≡◌, true, [], ◌∷◌};
 ghost use Rattle.book.specs.Books.{held, room};
 ghost use Rattle.register.specs.Checks.{has_room};
-ghost use Rattle.register.specs.Room.{fits, one_if, row_for, Extended};
+ghost use Rattle.register.specs.Room.{fits, Extended};
 
 use book::book::Book;
-use lines::access::AccessKey;
-use lines::row::{Row, RowKey};
-use wire::place::Place;
 
 pub(crate) mod additions;
-mod meeting;
-mod notes;
+pub(crate) mod notes;
 
 // Whether a book has room for so many more lines.
 fn has_room<L: Copy>(book: &Book<L>, lines: usize) -> bool
@@ -37,20 +33,5 @@ fn add_lines<L: Copy>(book: &mut Book<L>, lines: &[L])
 {
     for line in lines {
         add_line(book, *line);
-    }
-}
-
-// The row that the transaction needs at the ground of the key, if it has none yet.
-fn row_needed(rows: &Book<Row>, access: AccessKey) -> Option<Row>
-    ensures { one_if result ≡ row_for access rows.now }
-{
-    let transaction = access.transaction;
-    let ground = Place::of_key(access.key).burial_ground;
-    match rows.find(RowKey {
-        transaction,
-        ground,
-    }) {
-        Some(_) => None,
-        None => Some(Row::new(transaction, ground)),
     }
 }

@@ -1,13 +1,13 @@
 ghost use Rattle.std.specs.Prelude.{◌≤◌};
-ghost use Rattle.book.specs.Books.{held, room};
-ghost use Rattle.register.specs.RowBook.{SoundRows};
+ghost use Rattle.book.specs.Books.{room};
 
+use crate::row_book::RowBook;
 use book::book::Book;
 use lines::access::{ReadLine, WriteLine};
 use lines::note::Note;
-use lines::row::Row;
 use lines::transaction::Transaction;
 
+mod adding;
 mod begin;
 mod checks;
 mod decide;
@@ -18,18 +18,16 @@ mod read;
 mod validate;
 mod withdraw;
 
-// A register: the cells of a store, and five books in memory that the caller lends. It keeps its rows sound, and its books within
-// the limits that the calls' arrays have. Soundness is a fact by recursion over the rows, so it is truncated to have one proof, as a
-// ghost field wants it.
+// A register: the cells of a store, and five books in memory that the caller lends. It keeps its read and write lines within the
+// limits that the calls' arrays have; its rows have a type that says what is kept of them.
 #[derive(Drop)]
 pub struct Register<'a, S, P> {
     store: S,
     policy: P,
     transactions: Book<'a, Transaction>,
-    rows: Book<'a, Row>,
+    rows: RowBook<'a>,
     reads: Book<'a, ReadLine>,
     writes: Book<'a, WriteLine>,
     notes: Book<'a, Note>,
-    ghost sound: { ∥ SoundRows (held rows) ∥₁ },
-    ghost limits: { (room rows ≤ 256) × (room reads ≤ 512) × (room writes ≤ 512) },
+    ghost limits: { (room reads ≤ 512) × (room writes ≤ 512) },
 }

@@ -7,7 +7,7 @@ use book::line::Line;
 
 // Puts a line in the place of the first one with the key. A book that has none stays as it is.
 pub fn replace<L: Line>(book: &mut Book<L>, key: L::Key, line: L)
-    ensures lines { held book.new ≡ replaced L.same L.keyed key line (held book.old) }
+    ensures lines { held book.new ≡ replaced L.Key.eq L.keyed key line (held book.old) }
     ensures stays { Stays book.old book.new }
 {
     if let Some(i) = book.search(key) {

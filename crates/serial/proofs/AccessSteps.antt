@@ -52,15 +52,15 @@ module _ (first : Cells) (m : Model) (h : History) (L : Linked h m) (S : Sound f
   saw_it r at = L.reads t k ∙ ap (option_map (λ x. (x.value, x.seen.number))) at
 
   -- A second read of a key says nothing new.
-  pub again_silent : (r : ReadLine) → read_of m t k ≡ Some r → Silent h (call.Read t k, reply.Value r.value r.seen)
+  pub again_silent : (r : ReadLine) → read_of m t k ≡ Some r → Silent h (call.Read t k, Ok (reply.Value r.value r.seen))
   again_silent r at = record {
     fates = λ u j.
         rw (and_true (eqb t u) (eqb (ground_of k) j))
         (by_key (λ u j b. cond b (begun (fate h u j)) (fate h u j) ≡ fate h u j) t (ground_of k) u j
         (here (fate h t (ground_of k)) (S.reader t k (r.value, r.seen.number) (saw_it r at))) (λ _. refl));
     sights = λ u j.
-        by_key (λ u j b. cond b (seen_or (seen h u j) (reply.Value r.value r.seen)) (seen h u j) ≡ seen h u j) t k u j
-        (ap (λ o. seen_or o (reply.Value r.value r.seen)) (saw_it r at) ∙ sym (saw_it r at)) (λ _. refl);
+        by_key (λ u j b. cond b (seen_or (seen h u j) (Ok (reply.Value r.value r.seen))) (seen h u j) ≡ seen h u j) t k u j
+        (ap (λ o. seen_or o (Ok (reply.Value r.value r.seen))) (saw_it r at) ∙ sym (saw_it r at)) (λ _. refl);
     puts = λ u j. refl;
     stamps = λ u. refl;
   }
@@ -118,13 +118,13 @@ module _ (first : Cells) (m : Model) (h : History) (L : Linked h m) (S : Sound f
     write_there u y p = line_there (λ x. x.value) (write_of m u k) y (sym (L.writes u k) ∙ p)
 
     pub read_first : (c : Cell) → m.cells k ≡ Some c → read_of m t k ≡ None
-        → Sound first (view ((call.Read t k, reply.Value c.value c.write) ∷ h) (read_added m t k c))
+        → Sound first (view ((call.Read t k, Ok (reply.Value c.value c.write)) ∷ h) (read_added m t k c))
     read_first c at none =
         saw first (accessed notes) (accessed_sound notes (λ n i. in_left n m.notes _ i)) t k now_running
-        (seen ((call.Read t k, reply.Value c.value c.write) ∷ h)) c at
+        (seen ((call.Read t k, Ok (reply.Value c.value c.write)) ∷ h)) c at
         (λ u j n. off_key t k u j _ (seen h u j) n)
         (at_key t k _ (seen h t k)
-        ∙ ap (λ o. seen_or o (reply.Value c.value c.write)) (L.reads t k ∙ ap (option_map (λ x. (x.value, x.seen.number))) none))
+        ∙ ap (λ o. seen_or o (Ok (reply.Value c.value c.write))) (L.reads t k ∙ ap (option_map (λ x. (x.value, x.seen.number))) none))
         (λ u y n p l.
         let w = write_there u y p in
         let r = live_other u n l in
@@ -138,7 +138,7 @@ module _ (first : Cells) (m : Model) (h : History) (L : Linked h m) (S : Sound f
     put_after v u j = cond (eqb t u && (eqb k j && true)) (Some v) (last_put h u j)
 
     pub prewrite_again : (v : ℤ) (w : WriteLine) → write_of m t k ≡ Some w
-        → Sound first (view ((call.Prewrite t k v, reply.Done) ∷ h) (prewrite_by (Some w) m t k v).0)
+        → Sound first (view ((call.Prewrite t k v, (Ok reply.Done)) ∷ h) (prewrite_by (Some w) m t k v).0)
     prewrite_again v w had =
         let c = cell_there first (view h m) S t k w.value put_it in
         wrote first (accessed m.notes) T t k now_running (put_after v) v c.0 c.1
@@ -153,7 +153,7 @@ module _ (first : Cells) (m : Model) (h : History) (L : Linked h m) (S : Sound f
         put_it = L.writes t k ∙ ap (option_map (λ x. x.value)) had
 
     pub prewrite_first : (v : ℤ) (c : Cell) → m.cells k ≡ Some c
-        → Sound first (view ((call.Prewrite t k v, reply.Done) ∷ h) (prewrite_added m t k v))
+        → Sound first (view ((call.Prewrite t k v, (Ok reply.Done)) ∷ h) (prewrite_added m t k v))
     prewrite_first v c at =
         wrote first (accessed notes) T t k now_running (put_after v) v c at
         (λ u j n. off_key_too t k u j (Some v) (last_put h u j) n) (at_key_too t k (Some v) (last_put h t k))

@@ -1,5 +1,5 @@
 -- Two registers that agree on a ground answer a validation there alike, and still agree.
-use Rattle.std.proofs.Common.{◌≡◌, ℕ, Bool, true, false, cond, eqb, List, map, ℤ, Some, None, Ok, Err, Option, Result, sym, refl, ap, ◌∙◌, subst, arith}
+use Rattle.std.proofs.Common.{◌≡◌, ℕ, Bool, true, false, cond, eqb, List, map, ℤ, None, Ok, Err, Result, sym, refl, ap, ◌∙◌, subst}
 use lib.Signed.{lt_z}
 use Rattle.std.proofs.lemmas.Bool.{and_parts}
 use Rattle.wire.specs.declared.refusal.Refusal.{Refusal}
@@ -18,6 +18,7 @@ use Rattle.register.specs.Validation.{floors, ceilings, befores, afters, pushed,
 use Rattle.serial.specs.Agreement.{rows_at, Agree, SamePolicy, Local}
 use Rattle.serial.specs.Promise.{LocalUnder}
 use Rattle.serial.proofs.Kept.{kept_map, kept_replaced, line_passes}
+use Rattle.serial.proofs.Outcomes.{here_some}
 use Rattle.serial.proofs.Locality.{other_row, row_same, floors_same, ceilings_same, befores_same, afters_same, pushed_same}
 
 -- Two outcomes with the same answer, in registers that agree.
@@ -102,11 +103,6 @@ module _ (g t : ℕ) (r : Row) (at : eqb r.ground g ≡ true) where
       found_like =
           rw (floors_same g m n a t, ceilings_same g m n a t)
           (in_like (raised_above r.lower (floors n t g)) (lowered_below r.upper (ceilings n t g)))
-
--- The row that the check passes on is the one that was found.
-here_some : (o : Option Row) (r : Row) → row_here o ≡ Ok r → o ≡ Some r
-here_some None r e = let z : ◌≡◌ {A = ℕ} 0 1 = cc in absurd (omega arith)
-here_some (Some x) r e = cc
 
 validate_like : (P Q : Chooses) → SamePolicy P Q → (m n : Model) (t g : ℕ) → Agree g m n → transaction_of m t ≡ transaction_of n t
     → Like g (validate P m t g) (validate Q n t g)

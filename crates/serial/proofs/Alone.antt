@@ -8,6 +8,7 @@ use Rattle.std.proofs.lemmas.Bool.{and_parts, eqb-true, le-leb, ltb-true, ne_eqb
 use Rattle.std.specs.Int.{int_max, int_min}
 use Rattle.std.specs.List.{AllByRecursion}
 use Rattle.store.specs.Stores.{Cells}
+use Rattle.wire.proofs.Clash.{clash}
 use Rattle.wire.specs.Stamps.{stamp, stamp_of_bound}
 use Rattle.wire.specs.declared.refusal.Refusal.{Refusal}
 use Rattle.wire.specs.declared.refusal.Refusal.TheVariants.{BadNumber}
@@ -103,7 +104,7 @@ decide_commits P t found m n =
     (λ (x : Closed t m). absurd (not_open t found m x now))
     (λ (s : Solo t found m).
     let d = fine_commits (rows_of m t) (kept_fine t m.rows s.rows) in
-    (d.0, ap decision_reply d.1))
+    (d.0, ap (λ d. Ok (decision_reply d)) d.1))
     n)
 
 -- The keys of a day are among those of the day after more calls.
@@ -138,7 +139,7 @@ new_above m t e = go (ltb (last_begun m) t && leb t 4095) refl e
     go : (b : Bool) → (ltb (last_begun m) t && leb t 4095) ≡ b → ◌≡◌ {A = Result Unit Refusal} (cond b (Ok tt) (Err BadNumber)) (Ok tt)
         → last_begun m < t
     go true s q = ltb-true _ _ (and_parts (ltb (last_begun m) t) _ s).0
-    go false s q = let z : ◌≡◌ {A = ℕ} 0 1 = cc in absurd (omega arith)
+    go false s q = clash cc
 
 -- A transaction that begins while none is pending is alone.
 begin_solo : (m : Model) (h : History) (t : ℕ) (xs : List Transaction) → Known m → LivePending m.rows h → NonePending h
@@ -171,7 +172,7 @@ alone_in P means cells rooms calls earlier own rest t here none begun only fresh
     let before : Day = day_after P (new_day cells rooms) earlier in
     let known : Known before.model = known_day P (new_day cells rooms) earlier (λ n a. (tt, tt, tt, tt)) in
     let lives : LivePending before.model.rows before.history =
-    live_day P (new_day cells rooms) earlier (λ u j r e l. let z : ◌≡◌ {A = ℕ} 0 1 = cc in absurd (omega arith)) in
+    live_day P (new_day cells rooms) earlier (λ u j r e l. clash cc) in
     let start = begun_solo P before.model before.history t known lives none begun in
     decide_commits P t before.model.cells (day_after P (next P before (call.Begin t)) own).model
     (solo_day P means t before.model.cells (next P before (call.Begin t)) own start only fresh) decides

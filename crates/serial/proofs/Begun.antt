@@ -1,14 +1,15 @@
 -- Every number in the books was begun, so the next number to be begun is in none of them.
 --   Known m      what bounds the numbers of the transaction lines bounds every number in the other books
 --   known_day    that holds on every day
-use Rattle.std.proofs.Common.{◌≡◌, ℕ, ◌≤◌, Bool, true, false, cond, ◌&&◌, eqb, ltb, List, [], ◌∷◌, ◌++◌, map, ℤ, Some, None, Ok, Option, Less, Equal, Greater, unwrap_or, sym, refl, subst, arith}
+use Rattle.std.proofs.Common.{◌≡◌, ℕ, ◌≤◌, Bool, true, false, cond, ◌&&◌, eqb, ltb, List, [], ◌∷◌, ◌++◌, map, ℤ, Some, None, Ok, Option, Less, Equal, Greater, unwrap_or, sym, refl, subst}
 use Rattle.std.proofs.ByRecursion.{All-append, All-push, All-map, All-weaker}
 use Rattle.std.proofs.lemmas.Bool.{eqb-true, ltb-false, true≢false}
+use Rattle.std.proofs.lemmas.Cmp.{nat_cmp_total}
 use Rattle.std.specs.Ordering.{is_lt, nat_cmp}
 use Rattle.std.specs.List.{AllByRecursion}
 use Rattle.book.proofs.Largest.{none_above}
-use Rattle.book.proofs.Orders.{by_number}
 use Rattle.book.specs.Books.{above, greatest}
+use Rattle.wire.proofs.Clash.{clash}
 use Rattle.wire.specs.Keys.{ground_of}
 use Rattle.lines.proofs.Rows.{moves_owner}
 use Rattle.lines.specs.LineKeys.{row_key, read_key, write_key, same_row, same_access}
@@ -45,7 +46,7 @@ reached n j e = go (ltb n j) refl e
 
 greatest_all : (ns : List ℕ) → AllByRecursion (λ x. x ≤ unwrap_or (greatest nat_cmp ns) 0) ns
 greatest_all [] = tt
-greatest_all (n ∷ ns) = All-weaker _ _ (reached (above nat_cmp n ns)) (n ∷ ns) (none_above nat_cmp by_number (n ∷ ns))
+greatest_all (n ∷ ns) = All-weaker _ _ (reached (above nat_cmp n ns)) (n ∷ ns) (none_above nat_cmp nat_cmp_total (n ∷ ns))
 
 -- What holds of all of a mapped list holds of the images.
 all_unmap : {X Y : Type 0} (Q : Y → Type 0) (f : X → Y) (xs : List X) → AllByRecursion Q (map f xs) → AllByRecursion (λ x. Q (f x)) xs
@@ -76,7 +77,7 @@ open_known : (n : ℕ) (m : Model) (t : ℕ) → open_now m t ≡ Ok tt → AllB
 open_known n m t e a = go (transaction_of m t) refl e
   where
     go : (o : Option Transaction) → transaction_of m t ≡ o → open_line o ≡ Ok tt → t ≤ n
-    go None s q = let z : ◌≡◌ {A = ℕ} 0 1 = cc in absurd (omega arith)
+    go None s q = clash cc
     go (Some x) s q =
         let i = eqb-true _ _ (line_passes eqb (λ y. y.number) t m.transactions x s) in
         let b = find_all eqb (λ y. y.number) t (λ y. y.number ≤ n) m.transactions x a s in
@@ -107,14 +108,14 @@ needed_known n (Some r) t g e = tt
 
 -- A decision leaves the numbers of the transaction lines.
 numbers_kept : (n t : ℕ) (d : Decision) (xs : List Transaction)
-    → AllByRecursion (λ x. x.number ≤ n) (replaced eqb (λ x. x.number) t (record { number = t; decision = d }) xs) → AllByRecursion (λ x. x.number ≤ n) xs
+    → AllByRecursion (λ x. x.number ≤ n) (replaced eqb (λ x. x.number) t (record { number = t; decision = Some d }) xs) → AllByRecursion (λ x. x.number ≤ n) xs
 numbers_kept n t d [] a = tt
 numbers_kept n t d (x ∷ xs) a = go (eqb x.number t) refl a (λ b. numbers_kept n t d xs b)
   where
     go : (b : Bool) → eqb x.number t ≡ b
         → AllByRecursion (λ y. y.number ≤ n)
-        (cond b (record { number = t; decision = d } ∷ xs) (x ∷ replaced eqb (λ y. y.number) t (record { number = t; decision = d }) xs))
-        → (AllByRecursion (λ y. y.number ≤ n) (replaced eqb (λ y. y.number) t (record { number = t; decision = d }) xs) → AllByRecursion (λ y. y.number ≤ n) xs)
+        (cond b (record { number = t; decision = Some d } ∷ xs) (x ∷ replaced eqb (λ y. y.number) t (record { number = t; decision = Some d }) xs))
+        → (AllByRecursion (λ y. y.number ≤ n) (replaced eqb (λ y. y.number) t (record { number = t; decision = Some d }) xs) → AllByRecursion (λ y. y.number ≤ n) xs)
         → AllByRecursion (λ y. y.number ≤ n) (x ∷ xs)
     go true s h later = (subst (λ u. u ≤ n) (sym (eqb-true _ _ s)) h.0, h.1)
     go false s h later = (h.0, later h.1)

@@ -111,7 +111,7 @@ module _ (m : Model) (t g : ℕ) where
         rw (h, f) refl
 
     -- The lower bound is above what a note raises it above.
-    raised_by : other_party n t ≡ u → row_of m.rows u g ≡ Some y → effect_of n t y ≡ RaiseAbove y.upper → (b : ℤ)
+    raised_by : other_party n t ≡ u → row_of m.rows u g ≡ Some y → effect_of n t y ≡ Some (RaiseAbove y.upper) → (b : ℤ)
         → y.upper <ℤ raised_above b (floors m t g)
     raised_by p at f b =
         raised_over b (floors m t g) y.upper

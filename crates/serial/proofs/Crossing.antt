@@ -14,7 +14,7 @@ use Rattle.lines.specs.Rows.{moved}
 use Rattle.lines.specs.declared.row.Event.{Event}
 use Rattle.lines.specs.declared.row.Event.TheVariants.{Pass, Fail, Abort, Commit}
 use Rattle.lines.specs.declared.row.Row.{Row}
-use Rattle.register.specs.Calls.{settle, step}
+use Rattle.register.specs.Calls.{Response, settle, step}
 use Rattle.register.specs.Cases.{calls_of, full}
 use Rattle.register.specs.LaterDays.{crossing}
 use Rattle.register.specs.Checks.{any}
@@ -23,7 +23,6 @@ use Rattle.register.specs.Model.{Model, replaced, transaction_of}
 use Rattle.register.specs.Validation.{row_moved}
 use Rattle.register.specs.declared.call.Call.{Call}
 use Rattle.register.specs.declared.call.Call.TheVariants.{Begin, Read, Prewrite, Validate, Decide, Withdraw, Settle}
-use Rattle.register.specs.declared.call.Reply.{Reply}
 use Rattle.serial.specs.Agreement.{rows_at, Agree}
 use Rattle.serial.specs.Alone.{NonePending, Commits}
 use Rattle.serial.specs.Crossing.{CrossingSays, morning, owing, evening, own_calls}
@@ -56,7 +55,7 @@ one_listed u j t g b q =
     inl (ap₂ (λ (x y : ℕ). (x, y)) (eqb-true u t p.0) (eqb-true j g s.0))
 
 -- A touch is an access.
-touch_listed : (c : Call) (r : Reply) (t g : ℕ) → touches t g c r ≡ true → In (t, g) (access_of c)
+touch_listed : (c : Call) (r : Response) (t g : ℕ) → touches t g c r ≡ true → In (t, g) (access_of c)
 touch_listed (Begin u) r t g e = absurd (false≢true e)
 touch_listed (Read u k) r t g e = one_listed u (ground_of k) t g (accepted r) e
 touch_listed (Prewrite u k v) r t g e = one_listed u (ground_of k) t g (accepted r) e

@@ -6,6 +6,7 @@ use lib.Signed.{lt_z}
 use Rattle.std.proofs.lemmas.Int.{ints}
 use Rattle.std.proofs.ByRecursion.{folded_max_z_bounds, folded_min_z_bounds}
 use Rattle.std.proofs.lemmas.Bool.{and_parts, leb-true, false≢true}
+use Rattle.wire.proofs.Clash.{clash}
 use Rattle.wire.specs.Stamps.{stamp, stamp_of_bound}
 use Rattle.wire.specs.declared.refusal.Refusal.{Refusal}
 use Rattle.wire.specs.declared.refusal.Refusal.TheVariants.{StillRunning}
@@ -30,19 +31,19 @@ stamp_is (pos n) c e = go (leb n 268435455) refl e
         let i : c ≡ stamp n = cc in
         let f : min n 268435455 ≡ n = omega arith in
         ap (λ x. pos x.number) i ∙ ap pos f
-    go false s d = let z : ◌≡◌ {A = ℕ} 0 1 = cc in absurd (omega arith)
-stamp_is (negsuc n) c e = let z : ◌≡◌ {A = ℕ} 0 1 = cc in absurd (omega arith)
+    go false s d = clash cc
+stamp_is (negsuc n) c e = clash cc
 
 -- A commitment in a range is at its lower bound, and the range is not empty.
 at_lower : (l u : ℤ) (c : Stamp) → decision_in l u ≡ Committed c → (pos c.number ≡ l) × (l ≤ℤ u)
 at_lower l u c e = go (lt_z u l) refl e
   where
     of_stamp : (o : Option Stamp) → committed_at o ≡ Committed c → o ≡ Some c
-    of_stamp None d = let z : ◌≡◌ {A = ℕ} 0 1 = cc in absurd (omega arith)
+    of_stamp None d = clash cc
     of_stamp (Some x) d = cc
 
     go : (b : Bool) → lt_z u l ≡ b → cond b Aborted (committed_at (stamp_of_bound l)) ≡ Committed c → (pos c.number ≡ l) × (l ≤ℤ u)
-    go true s d = let z : ◌≡◌ {A = ℕ} 0 1 = cc in absurd (omega arith)
+    go true s d = clash cc
     go false s d = (stamp_is l c (of_stamp (stamp_of_bound l) d), grind (arith, ints))
 
 -- What a commitment says of each of the rows that it is taken of.
@@ -63,7 +64,7 @@ within_each rs c r e i = go (any (λ x. is_aborted x.state) rs) refl e
     go : (b : Bool) → any (λ x. is_aborted x.state) rs ≡ b
         → cond b Aborted (decision_in (largest_lower rs) (smallest_upper rs)) ≡ Committed c
         → (is_aborted r.state ≡ false) × (r.lower ≤ℤ pos c.number) × (pos c.number ≤ℤ r.upper)
-    go true s d = let z : ◌≡◌ {A = ℕ} 0 1 = cc in absurd (omega arith)
+    go true s d = clash cc
     go false s d =
         let p = at_lower (largest_lower rs) (smallest_upper rs) c d in
         let a = p.0 in
@@ -94,7 +95,7 @@ module _ (m : Model) (t g : ℕ) where
 
       go : (b : Bool) → any (λ x. eqb x.transaction t && is_running x.state) m.rows ≡ b
           → ◌≡◌ {A = Result Unit Refusal} (cond b (Err StillRunning) (Ok tt)) (Ok tt) → is_running r.state ≡ false
-      go true s d = let z : ◌≡◌ {A = ℕ} 0 1 = cc in absurd (omega arith)
+      go true s d = clash cc
       go false s d =
           fails (eqb r.transaction t) (own r at)
           (in_none (λ x. eqb x.transaction t && is_running x.state) r m.rows s

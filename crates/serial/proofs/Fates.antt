@@ -2,11 +2,11 @@
 --   fate h t g      how far t has come at the ground g
 --   seen h t k      the value and the stamp that the first accepted read of k by t was answered
 --   stamp_of h t    the stamp at which t committed
-use Rattle.std.proofs.Common.{ℕ, Bool, true, false, cond, ◌&&◌, eqb, List, [], ◌∷◌, ℤ, pos, Some, None, Option}
+use Rattle.std.proofs.Common.{ℕ, Bool, true, false, cond, ◌&&◌, eqb, List, [], ◌∷◌, ℤ, pos, Some, None, Option, Ok, Err}
 use Rattle.register.specs.declared.call.Call.{Call}
 use Rattle.register.specs.declared.call.Call.TheVariants.{Begin, Read, Prewrite, Validate, Decide, Withdraw, Settle}
-use Rattle.register.specs.declared.call.Reply.{Reply}
-use Rattle.register.specs.declared.call.Reply.TheVariants.{Done, Value, Range, Committed, Aborted, Refused}
+use Rattle.register.specs.Calls.{Response}
+use Rattle.register.specs.declared.call.Reply.TheVariants.{Done, Value, Range, Committed, Aborted}
 use Rattle.serial.specs.Ledger.{History, accepted, stamp_in, touches}
 
 -- How far a transaction has come at a ground. Past: its validation answered this range; or, once it is settled, its commit stamp is
@@ -23,7 +23,7 @@ stamp_or [] before = before
 stamp_or (c ∷ cs) before = Some c
 
 -- What one entry says of t's stamp.
-abbrev pub stamp_from : ℕ → Call → Reply → Option ℕ → Option ℕ
+abbrev pub stamp_from : ℕ → Call → Response → Option ℕ → Option ℕ
 stamp_from t (Begin u) r before = before
 stamp_from t (Read u k) r before = before
 stamp_from t (Prewrite u k v) r before = before
@@ -38,17 +38,17 @@ stamp_of [] t = None
 stamp_of (e ∷ h) t = stamp_from t e.0 e.1 (stamp_of h t)
 
 -- What the first accepted read was answered.
-abbrev pub seen_or : Option (ℤ × ℕ) → Reply → Option (ℤ × ℕ)
+abbrev pub seen_or : Option (ℤ × ℕ) → Response → Option (ℤ × ℕ)
 seen_or (Some x) r = Some x
-seen_or None Done = None
-seen_or None (Value v s) = Some (v, s.number)
-seen_or None (Range l u) = None
-seen_or None (Committed s) = None
-seen_or None Aborted = None
-seen_or None (Refused r) = None
+seen_or None (Ok Done) = None
+seen_or None (Ok (Value v s)) = Some (v, s.number)
+seen_or None (Ok (Range l u)) = None
+seen_or None (Ok (Committed s)) = None
+seen_or None (Ok Aborted) = None
+seen_or None (Err e) = None
 
 -- What one entry says that t saw at k.
-abbrev pub seen_in : ℕ → ℕ → Call → Reply → Option (ℤ × ℕ) → Option (ℤ × ℕ)
+abbrev pub seen_in : ℕ → ℕ → Call → Response → Option (ℤ × ℕ) → Option (ℤ × ℕ)
 seen_in t k (Begin u) r before = before
 seen_in t k (Read u j) r before = cond (eqb u t && eqb j k) (seen_or before r) before
 seen_in t k (Prewrite u j v) r before = before
@@ -70,13 +70,13 @@ begun (Past b l u) = Past b l u
 begun Gone = Gone
 
 -- A validation.
-abbrev pub judged : Reply → Fate → Fate
-judged Done before = before
-judged (Value v s) before = before
-judged (Range l u) before = Past false l u
-judged (Committed s) before = before
-judged Aborted before = Gone
-judged (Refused r) before = before
+abbrev pub judged : Response → Fate → Fate
+judged (Ok Done) before = before
+judged (Ok (Value v s)) before = before
+judged (Ok (Range l u)) before = Past false l u
+judged (Ok (Committed s)) before = before
+judged (Ok Aborted) before = Gone
+judged (Err e) before = before
 
 -- A settlement of a transaction that committed at a stamp, or did not.
 abbrev pub settled_at : Option ℕ → Fate
@@ -84,7 +84,7 @@ settled_at None = Gone
 settled_at (Some c) = Past true (pos c) (pos c)
 
 -- What one entry says of t at g, where t's stamp is as given.
-abbrev pub fate_in : ℕ → ℕ → Call → Reply → Option ℕ → Fate → Fate
+abbrev pub fate_in : ℕ → ℕ → Call → Response → Option ℕ → Fate → Fate
 fate_in t g (Begin u) r c before = before
 fate_in t g (Read u k) r c before = cond (touches t g (Read u k) r) (begun before) before
 fate_in t g (Prewrite u k v) r c before = cond (touches t g (Prewrite u k v) r) (begun before) before

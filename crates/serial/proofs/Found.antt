@@ -1,7 +1,8 @@
 -- The first line of a key, after a list grows, is mapped, or has a line replaced.
-use Rattle.std.proofs.Common.{◌≡◌, ℕ, Bool, true, false, cond, List, [], ◌∷◌, ◌++◌, map, Some, None, Option, refl, ap, arith}
+use Rattle.std.proofs.Common.{◌≡◌, Bool, true, false, cond, List, [], ◌∷◌, ◌++◌, map, Some, None, Option, refl, ap}
 use Rattle.std.specs.Option.{option_map}
 use Rattle.std.specs.List.{AllByRecursion}
+use Rattle.wire.proofs.Clash.{clash}
 use Rattle.book.specs.Books.{line_with}
 use Rattle.register.specs.Model.{replaced}
 
@@ -32,7 +33,7 @@ module _ {X K : Type 0} (same : K → K → Bool) (f : X → K) (k : K) where
   -- A line that was found and replaced by one of its key.
   pub find_replaced : (y x : X) → same (f y) k ≡ true → (xs : List X) → line_with same f k xs ≡ Some x
       → line_with same f k (replaced same f k y xs) ≡ Some y
-  find_replaced y x e [] q = let z : ◌≡◌ {A = ℕ} 0 1 = cc in absurd (omega arith)
+  find_replaced y x e [] q = clash cc
   find_replaced y x e (z ∷ zs) q = go (same (f z) k) refl q (λ d. find_replaced y x e zs d)
     where
       go : (b : Bool) → same (f z) k ≡ b → cond b (Some z) (line_with same f k zs) ≡ Some x
@@ -54,7 +55,7 @@ module _ {X K : Type 0} (same : K → K → Bool) (f : X → K) (k : K) where
 
   -- What holds of every line holds of the one that is found.
   pub find_all : (Q : X → Type 0) (xs : List X) (x : X) → AllByRecursion Q xs → line_with same f k xs ≡ Some x → Q x
-  find_all Q [] x a q = let z : ◌≡◌ {A = ℕ} 0 1 = cc in absurd (omega arith)
+  find_all Q [] x a q = clash cc
   find_all Q (y ∷ ys) x a q = go (same (f y) k) q (λ d. find_all Q ys x a.1 d)
     where
       go : (b : Bool) → cond b (Some y) (line_with same f k ys) ≡ Some x → (line_with same f k ys ≡ Some x → Q x) → Q x

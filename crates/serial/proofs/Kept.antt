@@ -2,9 +2,10 @@
 --   joined_kept, any_kept, line_kept      what only looks at lines that pass sees the same in those kept
 --   kept_kept, kept_map, kept_replaced    keeping goes with keeping, mapping and replacing
 --   line_passes                           a line that is found has the key
-use Rattle.std.proofs.Common.{◌≡◌, ℕ, Bool, true, false, cond, ◌||◌, List, [], ◌∷◌, ◌++◌, map, Some, filter, sym, refl, ap, ◌∙◌, arith}
+use Rattle.std.proofs.Common.{◌≡◌, Bool, true, false, cond, ◌||◌, List, [], ◌∷◌, ◌++◌, map, Some, filter, sym, refl, ap, ◌∙◌}
 use Rattle.std.proofs.lemmas.Bool.{true≢false}
 use Rattle.std.specs.List.{flat_map}
+use Rattle.wire.proofs.Clash.{clash}
 use Rattle.book.specs.Books.{line_with}
 use Rattle.register.specs.Checks.{any}
 use Rattle.register.specs.Model.{replaced}
@@ -69,7 +70,7 @@ module _ {X : Type 0} (p : X → Bool) where
 -- The line that is found has the key.
 pub line_passes : {X K : Type 0} (same : K → K → Bool) (f : X → K) (k : K) (xs : List X) (x : X)
     → line_with same f k xs ≡ Some x → same (f x) k ≡ true
-line_passes same f k [] x e = let z : ◌≡◌ {A = ℕ} 0 1 = cc in absurd (omega arith)
+line_passes same f k [] x e = clash cc
 line_passes same f k (y ∷ ys) x e = go (same (f y) k) refl e (λ d. line_passes same f k ys x d)
   where
     go : (b : Bool) → same (f y) k ≡ b → cond b (Some y) (line_with same f k ys) ≡ Some x

@@ -2,6 +2,7 @@
 --   Source, order_tells    where each commit's reads come from; then the order tells the day
 --   Final, order_ends      where the value at the end comes from; then the order ends with it
 use Rattle.std.proofs.Common.{◌≡◌, ℕ, ◌<◌, Bool, true, false, eqb, ◌⊎◌, List, [], ◌∷◌, map, ℤ, pos, negsuc, Some, None, Option, sym, refl, ap, ◌∙◌, subst, inl, inr, ⊎_elim, arith}
+use Rattle.wire.proofs.Clash.{clash}
 use Rattle.std.proofs.ByRecursion.{All-weaker}
 use Rattle.std.proofs.lemmas.Bool.{and_from, cases_Bool, eq-eqb}
 use Rattle.std.specs.List.{AllByRecursion}
@@ -140,7 +141,7 @@ module _ (h : History) (vs : Values) (once : Once (commits h)) where
   last_final k o (untouched e f) = nobody (sym e) (λ d i t x w. never x (sym (f d (in_in_order d (commits h) i)) ∙ w))
     where
       never : (x : ℤ) → ◌≡◌ {A = Option ℤ} None (Some x) → ⊥
-      never x q = let z : ◌≡◌ {A = ℕ} 0 1 = cc in omega arith
+      never x q = clash cc
   last_final k o (written u i v e w f) =
       one u (in_order_in u (commits h) i) refl v e w
       (λ d t b x y. let j = in_in_order d (commits h) t in apart (earlier d u ≡ true) d u j i (λ n. stamp_earlier d u (f d j n x y)))

@@ -26,10 +26,10 @@ row_fate None = Away
 row_fate (Some r) = fate_by r.state r.lower r.upper
 
 -- The stamp of a decision.
-abbrev pub decided_stamp : Decision → Option ℕ
-decided_stamp decision.Open = None
-decided_stamp (decision.Committed c) = Some c.number
-decided_stamp decision.Aborted = None
+abbrev pub decided_stamp : Option Decision → Option ℕ
+decided_stamp None = None
+decided_stamp (Some (decision.Committed c)) = Some c.number
+decided_stamp (Some decision.Aborted) = None
 
 -- The stamp of a transaction's line, if there is one.
 abbrev pub line_stamp : Option Transaction → Option ℕ

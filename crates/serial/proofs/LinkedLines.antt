@@ -3,9 +3,10 @@
 --   first_put, again_put        a prewrite that adds a line, and one that replaces a value
 --   begun_stamps                a transaction that begins has no stamp
 --   decided_stamps              one that is decided has the stamp of its decision
-use Rattle.std.proofs.Common.{◌≡◌, ℕ, Bool, true, false, cond, ◌&&◌, eqb, List, [], ◌∷◌, ◌++◌, ℤ, Some, None, Ok, Option, sym, refl, ap, ◌∙◌, subst, arith}
+use Rattle.std.proofs.Common.{◌≡◌, ℕ, Bool, true, false, cond, ◌&&◌, eqb, List, [], ◌∷◌, ◌++◌, ℤ, Some, None, Ok, Option, sym, refl, ap, ◌∙◌, subst}
 use Rattle.std.proofs.lemmas.Bool.{and_parts, eqb-true, eq-eqb}
 use Rattle.std.specs.Option.{option_map}
+use Rattle.wire.proofs.Clash.{clash}
 use Rattle.wire.specs.declared.stamp.Stamp.{Stamp}
 use Rattle.book.specs.Books.{line_with}
 use Rattle.lines.specs.LineKeys.{read_key, write_key, same_access}
@@ -13,11 +14,10 @@ use Rattle.lines.specs.declared.access.AccessKey.{AccessKey}
 use Rattle.lines.specs.declared.access.ReadLine.{ReadLine}
 use Rattle.lines.specs.declared.access.WriteLine.{WriteLine}
 use Rattle.lines.specs.declared.transaction.Decision.{Decision}
-use Rattle.lines.specs.declared.transaction.Decision.TheVariants as decision
 use Rattle.lines.specs.declared.transaction.Transaction.{Transaction}
 use Rattle.register.specs.Checks.{open_line, open_decision}
 use Rattle.register.specs.Model.{replaced}
-use Rattle.register.specs.declared.call.Reply.{Reply}
+use Rattle.register.specs.Calls.{Response}
 use Rattle.register.specs.declared.call.Reply.TheVariants as reply
 use Rattle.serial.proofs.Fates.{seen_or}
 use Rattle.serial.proofs.Found.{or_else, find_append, find_replaced, find_other}
@@ -44,7 +44,7 @@ seen_at x = (x.value, x.seen.number)
 module _ (f : ℕ → ℕ → Option (ℤ × ℕ)) (xs : List ReadLine) (t k : ℕ)
     (shown : (u j : ℕ) → f u j ≡ option_map seen_at (line_with same_access read_key (access u j) xs)) where
   -- A read that was answered before.
-  pub again_seen : (x : ReadLine) (r : Reply) → line_with same_access read_key (access t k) xs ≡ Some x → (u j : ℕ)
+  pub again_seen : (x : ReadLine) (r : Response) → line_with same_access read_key (access t k) xs ≡ Some x → (u j : ℕ)
       → cond (eqb t u && eqb k j) (seen_or (f u j) r) (f u j) ≡ option_map seen_at (line_with same_access read_key (access u j) xs)
   again_seen x r at u j =
       by_key (λ v i b. cond b (seen_or (f v i) r) (f v i) ≡ option_map seen_at (line_with same_access read_key (access v i) xs)) t k u j
@@ -52,12 +52,12 @@ module _ (f : ℕ → ℕ → Option (ℤ × ℕ)) (xs : List ReadLine) (t k : �
 
   -- A first read.
   pub first_seen : (value : ℤ) (s : Stamp) → line_with same_access read_key (access t k) xs ≡ None → (u j : ℕ)
-      → cond (eqb t u && eqb k j) (seen_or (f u j) (reply.Value value s)) (f u j)
+      → cond (eqb t u && eqb k j) (seen_or (f u j) (Ok (reply.Value value s))) (f u j)
       ≡ option_map seen_at (line_with same_access read_key (access u j)
       (xs ++ record { transaction = t; key = k; value = value; seen = s } ∷ []))
   first_seen value s at u j =
       rw (find_append same_access read_key (access u j) xs (record { transaction = t; key = k; value = value; seen = s } ∷ []))
-      (by_key (λ v i b. cond b (seen_or (f v i) (reply.Value value s)) (f v i)
+      (by_key (λ v i b. cond b (seen_or (f v i) (Ok (reply.Value value s))) (f v i)
       ≡ option_map seen_at (or_else (line_with same_access read_key (access v i) xs)
       (cond b (Some (record { transaction = t; key = k; value = value; seen = s })) None))) t k u j
       (rw (shown t k, at) refl) (λ _. rw (or_none (line_with same_access read_key (access u j) xs)) (shown u j)))
@@ -99,43 +99,42 @@ number_in xs u = line_with eqb (λ x. x.number) u xs
 
 -- The lines with a decision.
 abbrev with_decision : ℕ → Decision → List Transaction → List Transaction
-with_decision t d xs = replaced eqb (λ x. x.number) t (record { number = t; decision = d }) xs
+with_decision t d xs = replaced eqb (λ x. x.number) t (record { number = t; decision = Some d }) xs
 
 -- An open transaction has a line, and no stamp.
 pub open_stamp : (o : Option Transaction) → open_line o ≡ Ok tt → line_stamp o ≡ None
 open_stamp None e = refl
 open_stamp (Some x) e = go x.decision e
   where
-    go : (d : Decision) → open_decision d ≡ Ok tt → decided_stamp d ≡ None
-    go decision.Open q = refl
-    go (decision.Committed c) q = let z : ◌≡◌ {A = ℕ} 0 1 = cc in absurd (omega arith)
-    go decision.Aborted q = refl
+    go : (d : Option Decision) → open_decision d ≡ Ok tt → decided_stamp d ≡ None
+    go None q = refl
+    go (Some d) q = clash cc
 
 module _ (f : ℕ → Option ℕ) (xs : List Transaction) (t : ℕ) (shown : (u : ℕ) → f u ≡ line_stamp (number_in xs u)) where
   -- A transaction that begins has no stamp.
-  pub begun_stamps : (u : ℕ) → f u ≡ line_stamp (number_in (xs ++ record { number = t; decision = decision.Open } ∷ []) u)
+  pub begun_stamps : (u : ℕ) → f u ≡ line_stamp (number_in (xs ++ record { number = t; decision = None } ∷ []) u)
   begun_stamps u =
-      rw (find_append eqb (λ x. x.number) u xs (record { number = t; decision = decision.Open } ∷ []))
+      rw (find_append eqb (λ x. x.number) u xs (record { number = t; decision = None } ∷ []))
       (shown u ∙ go (number_in xs u) (eqb t u))
     where
       go : (o : Option Transaction) (b : Bool)
-          → line_stamp o ≡ line_stamp (or_else o (cond b (Some (record { number = t; decision = decision.Open })) None))
+          → line_stamp o ≡ line_stamp (or_else o (cond b (Some (record { number = t; decision = None })) None))
       go (Some x) b = refl
       go None true = refl
       go None false = refl
 
   -- A transaction that is decided has the stamp of its decision.
-  pub decided_stamps : (a : ℕ → Option ℕ) (d : Decision) → open_line (number_in xs t) ≡ Ok tt → a t ≡ decided_stamp d → (u : ℕ)
+  pub decided_stamps : (a : ℕ → Option ℕ) (d : Decision) → open_line (number_in xs t) ≡ Ok tt → a t ≡ decided_stamp (Some d) → (u : ℕ)
       → cond (eqb t u) (a u) (f u) ≡ line_stamp (number_in (with_decision t d xs) u)
   decided_stamps a d begun own u =
       by_test (λ b. cond b (a u) (f u) ≡ line_stamp (number_in (with_decision t d xs) u)) (eqb t u)
       (λ e. subst (λ v. a v ≡ line_stamp (number_in (with_decision t d xs) v)) (eqb-true _ _ e)
       (own ∙ here (number_in xs t) refl begun))
-      (λ n. shown u ∙ ap line_stamp (sym (find_other eqb (λ x. x.number) u t (record { number = t; decision = d }) n
+      (λ n. shown u ∙ ap line_stamp (sym (find_other eqb (λ x. x.number) u t (record { number = t; decision = Some d }) n
       (λ x s. ap (λ v. eqb v u) (eqb-true _ _ s) ∙ n) xs)))
     where
       here : (o : Option Transaction) → number_in xs t ≡ o → open_line o ≡ Ok tt
-          → decided_stamp d ≡ line_stamp (number_in (with_decision t d xs) t)
-      here None e q = let z : ◌≡◌ {A = ℕ} 0 1 = cc in absurd (omega arith)
+          → decided_stamp (Some d) ≡ line_stamp (number_in (with_decision t d xs) t)
+      here None e q = clash cc
       here (Some x) e q =
-          ap line_stamp (sym (find_replaced eqb (λ y. y.number) t (record { number = t; decision = d }) x (eq-eqb t t refl) xs e))
+          ap line_stamp (sym (find_replaced eqb (λ y. y.number) t (record { number = t; decision = Some d }) x (eq-eqb t t refl) xs e))

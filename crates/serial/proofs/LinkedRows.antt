@@ -3,7 +3,7 @@
 --   added_fates        a call that adds the row it needs
 --   moved_fates        a row that was moved by an event
 --   pushed_fates       rows that make way show the fates they showed
-use Rattle.std.proofs.Common.{◌≡◌, ℕ, Bool, true, false, cond, ◌&&◌, eqb, List, [], ◌∷◌, ◌++◌, map, ℤ, Some, None, Option, sym, refl, ap, ◌∙◌, subst}
+use Rattle.std.proofs.Common.{◌≡◌, ℕ, Bool, true, false, cond, ◌&&◌, eqb, List, [], ◌∷◌, ◌++◌, map, ℤ, Some, None, Option, sym, refl, ap, ◌∙◌, subst, option_and_then, arith}
 use Rattle.std.proofs.lemmas.Bool.{and_left, and_right, and_parts, eqb-true, eq-eqb, or_from}
 use Rattle.std.specs.Option.{option_map}
 use Rattle.wire.specs.Keys.{ground_of}
@@ -12,10 +12,9 @@ use Rattle.lines.specs.Locks.{row_of}
 use Rattle.lines.specs.Notes.{side_of, effect_by}
 use Rattle.lines.specs.Rows.{moved}
 use Rattle.lines.specs.declared.note.Effect.{Effect}
-use Rattle.lines.specs.declared.note.Effect.TheVariants.{Nothing}
 use Rattle.lines.specs.declared.note.Note.{Note}
 use Rattle.lines.specs.declared.note.Side.{Side}
-use Rattle.lines.specs.declared.note.Side.TheVariants.{Earlier, Later, Apart, Neither}
+use Rattle.lines.specs.declared.note.Side.TheVariants.{Earlier, Later, Apart}
 use Rattle.lines.specs.declared.row.Event.{Event}
 use Rattle.lines.specs.declared.row.Row.{Row}
 use Rattle.lines.specs.declared.row.State.{State}
@@ -103,21 +102,19 @@ abbrev Idle : State → Type 0
 Idle s = (side : Side) (r : Row) → (is_after (effect_by side s r) ≡ false) × (is_before (effect_by side s r) ≡ false)
 
 idle_validated : Idle state.Validated
-idle_validated Earlier r = (refl, refl)
-idle_validated Later r = (refl, refl)
-idle_validated Apart r = (refl, refl)
-idle_validated Neither r = (refl, refl)
+idle_validated side r = (grind arith, grind arith)
 
 idle_committed : Idle state.Committed
-idle_committed Earlier r = (refl, refl)
-idle_committed Later r = (refl, refl)
-idle_committed Apart r = (refl, refl)
-idle_committed Neither r = (refl, refl)
+idle_committed side r = (grind arith, grind arith)
 
 -- What such a row means to a note, at whichever ground the note is.
-idle_noted : (on : Effect → Bool) (b : Bool) (n : Note) (t : ℕ) (x : Row) → on Nothing ≡ false
-    → ((side : Side) → on (effect_by side x.state x) ≡ false) → on (cond b (effect_with n t (Some x)) Nothing) ≡ false
-idle_noted on true n t x none idle = idle (side_of n t)
+idle_noted : (on : Option Effect → Bool) (b : Bool) (n : Note) (t : ℕ) (x : Row) → on None ≡ false
+    → ((side : Side) → on (effect_by side x.state x) ≡ false) → on (cond b (effect_with n t (Some x)) None) ≡ false
+idle_noted on true n t x none idle = by_side (side_of n t)
+  where
+    by_side : (side : Option Side) → on (option_and_then (λ s. effect_by s x.state x) side) ≡ false
+    by_side None = none
+    by_side (Some side) = idle side
 idle_noted on false n t x none idle = none
 
 -- A test that no line passes.
@@ -127,7 +124,7 @@ any_never p e (x ∷ xs) = or_from (p x) _ (e x) (any_never p e xs)
 
 module _ (m : Model) (t g : ℕ) where
   -- A row in such a state joins no list.
-  idle_unjoined : (on : Effect → Bool) → on Nothing ≡ false → (x : Row) → row_of m.rows x.transaction x.ground ≡ Some x
+  idle_unjoined : (on : Option Effect → Bool) → on None ≡ false → (x : Row) → row_of m.rows x.transaction x.ground ≡ Some x
       → ((side : Side) → on (effect_by side x.state x) ≡ false) → joins on m t g x ≡ false
   idle_unjoined on none x at idle = go (eqb x.ground g) refl
     where

@@ -1,10 +1,10 @@
 -- The ledger and the books say the same after every call.
 --   linked_new      they do at a new register
 --   linked_step     and after a call, if they did before it
---   linked_day      so they do on every day
-use Rattle.std.proofs.Common.{◌≡◌, ℕ, true, false, eqb, List, [], ◌∷◌, map, ℤ, pos, Some, None, Ok, Option, Result, sym, refl, ap, ◌∙◌, arith}
+use Rattle.std.proofs.Common.{◌≡◌, ℕ, true, false, eqb, [], ◌∷◌, map, ℤ, pos, Some, None, Ok, Option, Result, sym, refl, ap, ◌∙◌, Err}
 use Rattle.std.specs.Option.{option_map}
 use Rattle.store.specs.Stores.{Cells}
+use Rattle.wire.proofs.Clash.{clash}
 use Rattle.wire.specs.Keys.{ground_of}
 use Rattle.wire.specs.declared.refusal.Refusal.{Refusal}
 use Rattle.wire.specs.declared.stamp.Stamp.{Stamp}
@@ -20,16 +20,14 @@ use Rattle.lines.specs.declared.row.State.TheVariants as state
 use Rattle.lines.specs.declared.transaction.Decision.{Decision}
 use Rattle.lines.specs.declared.transaction.Decision.TheVariants as decision
 use Rattle.lines.specs.declared.transaction.Transaction.{Transaction}
-use Rattle.register.specs.Calls.{step, done, value_reply, verdict_reply, decide_reply, decision_reply, withdraw_reply}
+use Rattle.register.specs.Calls.{Response, step, done, value_reply, verdict_reply, decide_reply, decision_reply, withdraw_reply}
 use Rattle.register.specs.Checks.{event_of, decided_line}
 use Rattle.register.specs.Decisions.{decision_by}
 use Rattle.register.specs.Model.{Model, Chooses, Rooms, new, read_of, write_of, transaction_of}
 use Rattle.register.specs.Validation.{pushed}
 use Rattle.register.specs.declared.call.Call.{Call}
 use Rattle.register.specs.declared.call.Call.TheVariants as call
-use Rattle.register.specs.declared.call.Reply.{Reply}
 use Rattle.register.specs.declared.call.Reply.TheVariants as reply
-use Rattle.serial.specs.Days.{Day, next, day_after}
 use Rattle.serial.specs.Ledger.{History, stamp_in, last_put}
 use Rattle.serial.proofs.Fates.{Past, Gone, settled_at, stamp_or, fate, seen, stamp_of}
 use Rattle.serial.proofs.Linked.{Linked, row_fate, decided_stamp, line_stamp}
@@ -44,36 +42,35 @@ use Rattle.serial.proofs.Untouched.{untouched}
 -- A row that was settled shows what its transaction's stamp says.
 settled_fate : (o : Option Transaction) (e : Event) (r : Row) → decided_line o ≡ Ok e → (moved r e).1 ≡ Ok tt
     → settled_at (line_stamp o) ≡ row_fate (Some (moved r e).0)
-settled_fate None e r q ok = let z : ◌≡◌ {A = ℕ} 0 1 = cc in absurd (omega arith)
+settled_fate None e r q ok = clash cc
 settled_fate (Some x) e r q ok = go x.decision q
   where
     committed : (c : Stamp) (s : State) → (moves r s (Commit c)).1 ≡ Ok tt
         → Past true (pos c.number) (pos c.number) ≡ row_fate (Some (moves r s (Commit c)).0)
-    committed c state.Running d = let z : ◌≡◌ {A = ℕ} 0 1 = cc in absurd (omega arith)
+    committed c state.Running d = clash cc
     committed c state.Validated d = refl
-    committed c state.Committed d = let z : ◌≡◌ {A = ℕ} 0 1 = cc in absurd (omega arith)
-    committed c state.Aborted d = let z : ◌≡◌ {A = ℕ} 0 1 = cc in absurd (omega arith)
+    committed c state.Committed d = clash cc
+    committed c state.Aborted d = clash cc
 
     aborted : (s : State) → (moves r s Abort).1 ≡ Ok tt → Gone ≡ row_fate (Some (moves r s Abort).0)
     aborted state.Running d = refl
     aborted state.Validated d = refl
-    aborted state.Committed d = let z : ◌≡◌ {A = ℕ} 0 1 = cc in absurd (omega arith)
-    aborted state.Aborted d = let z : ◌≡◌ {A = ℕ} 0 1 = cc in absurd (omega arith)
+    aborted state.Committed d = clash cc
+    aborted state.Aborted d = clash cc
 
-    go : (d : Decision) → event_of d ≡ Ok e → settled_at (decided_stamp d) ≡ row_fate (Some (moved r e).0)
-    go decision.Open d = let z : ◌≡◌ {A = ℕ} 0 1 = cc in absurd (omega arith)
-    go (decision.Committed c) d =
+    go : (d : Option Decision) → event_of d ≡ Ok e → settled_at (decided_stamp d) ≡ row_fate (Some (moved r e).0)
+    go None d = clash cc
+    go (Some (decision.Committed c)) d =
         let i : e ≡ Commit c = cc in
         let ok' : (moved r (Commit c)).1 ≡ Ok tt = ap (λ v. (moved r v).1) (sym i) ∙ ok in
         rw i (committed c r.state ok')
-    go decision.Aborted d =
+    go (Some decision.Aborted) d =
         let i : e ≡ Abort = cc in
         let ok' : (moved r Abort).1 ≡ Ok tt = ap (λ v. (moved r v).1) (sym i) ∙ ok in
         rw i (aborted r.state ok')
 
 -- The stamp that a decide replies is the decision's.
-replied_stamp : (d : Decision) → stamp_or (stamp_in (decision_reply d)) None ≡ decided_stamp d
-replied_stamp decision.Open = refl
+replied_stamp : (d : Decision) → stamp_or (stamp_in (Ok (decision_reply d))) None ≡ decided_stamp (Some d)
 replied_stamp (decision.Committed c) = refl
 replied_stamp decision.Aborted = refl
 
@@ -92,22 +89,22 @@ module _ (m : Model) (h : History) (linked : Linked h m) where
   read_rows t k x at none =
       let a = (untouched h t k (linked.rows t (ground_of k) ∙ ap row_fate none)).0 in
       let b = linked.reads t k ∙ ap (option_map (λ y. (y.value, y.seen.number))) at in
-      let z : ◌≡◌ {A = ℕ} 0 1 = cc in absurd (omega arith)
+      clash cc
 
   -- One that prewrote a key too.
   pub write_rows : (t k : ℕ) (x : WriteLine) → write_of m t k ≡ Some x → row_of m.rows t (ground_of k) ≡ None → ⊥
   write_rows t k x at none =
       let a = (untouched h t k (linked.rows t (ground_of k) ∙ ap row_fate none)).1 in
       let b = linked.writes t k ∙ ap (option_map (λ y. y.value)) at in
-      let z : ◌≡◌ {A = ℕ} 0 1 = cc in absurd (omega arith)
+      clash cc
 
 module _ (P : Chooses) (m : Model) (h : History) (linked : Linked h m) where
   -- What is to hold of the register and the reply after a call.
-  abbrev After : {B : Type 0} → Call → (Result B Refusal → Reply) → Out B → Type 0
+  abbrev After : {B : Type 0} → Call → (Result B Refusal → Response) → Out B → Type 0
   After c f o = Linked ((c, f o.1) ∷ h) o.0
 
-  refused : (c : Call) (e : Refusal) → Linked ((c, reply.Refused e) ∷ h) m
-  refused c e = silent_linked m h (c, reply.Refused e) (refused_silent h c e) linked
+  refused : (c : Call) (e : Refusal) → Linked ((c, Err e) ∷ h) m
+  refused c e = silent_linked m h (c, Err e) (refused_silent h c e) linked
 
   pub linked_step : (c : Call) → Linked ((c, (step P m c).1) ∷ h) (step P m c).0
   linked_step (call.Begin t) =
@@ -124,7 +121,7 @@ module _ (P : Chooses) (m : Model) (h : History) (linked : Linked h m) where
       let there = row_there (row_of m.rows t (ground_of k)) (read_rows m h linked t k r at) in
       record {
         rows = again_fates (fate h) m.rows t (ground_of k) linked.rows there.0 there.1;
-        reads = again_seen (seen h) m.reads t k linked.reads r (reply.Value r.value r.seen) at;
+        reads = again_seen (seen h) m.reads t k linked.reads r (Ok (reply.Value r.value r.seen)) at;
         writes = linked.writes;
         stamps = linked.stamps;
       })
@@ -181,8 +178,8 @@ module _ (P : Chooses) (m : Model) (h : History) (linked : Linked h m) where
         reads = linked.reads;
         writes = linked.writes;
         stamps = decided_stamps (stamp_of h) m.transactions t linked.stamps
-            (λ u. stamp_or (stamp_in (decision_reply d)) (stamp_of h u)) d now
-            (ap (stamp_or (stamp_in (decision_reply d))) none ∙ replied_stamp d);
+            (λ u. stamp_or (stamp_in (Ok (decision_reply d))) (stamp_of h u)) d now
+            (ap (stamp_or (stamp_in (Ok (decision_reply d)))) none ∙ replied_stamp d);
       })
   linked_step (call.Withdraw t) =
       withdraw_cases m t (After (call.Withdraw t) withdraw_reply) (refused (call.Withdraw t))
@@ -204,9 +201,3 @@ module _ (P : Chooses) (m : Model) (h : History) (linked : Linked h m) where
         writes = linked.writes;
         stamps = linked.stamps;
       })
-
--- On every day.
-pub linked_day : (P : Chooses) (d : Day) (cs : List Call) → Linked d.history d.model
-    → Linked (day_after P d cs).history (day_after P d cs).model
-linked_day P d [] l = l
-linked_day P d (c ∷ cs) l = linked_day P (next P d c) cs (linked_step P d.model d.history l c)

@@ -1,5 +1,5 @@
 -- A validation depends on its ground alone: each thing that it looks at is the same in two registers that agree there.
-use Rattle.std.proofs.Common.{◌≡◌, ℕ, Bool, true, false, cond, ◌&&◌, eqb, List, [], ◌++◌, map, ℤ, filter, sym, refl, ap, ◌∙◌}
+use Rattle.std.proofs.Common.{◌≡◌, ℕ, Bool, true, false, cond, ◌&&◌, eqb, List, [], ◌++◌, map, ℤ, None, filter, Option, sym, refl, ap, ◌∙◌}
 use mathlib.Core.Path.{fun_ext}
 use Rattle.std.proofs.lemmas.Bool.{and_left, and_right, cond-false, eqb-true}
 use Rattle.std.specs.List.{flat_map}
@@ -10,7 +10,6 @@ use Rattle.lines.specs.Locks.{row_of}
 use Rattle.lines.specs.declared.access.ReadLine.{ReadLine}
 use Rattle.lines.specs.declared.access.WriteLine.{WriteLine}
 use Rattle.lines.specs.declared.note.Effect.{Effect}
-use Rattle.lines.specs.declared.note.Effect.TheVariants.{Nothing}
 use Rattle.lines.specs.declared.note.Note.{Note}
 use Rattle.lines.specs.declared.row.Row.{Row}
 use Rattle.register.specs.Checks.{any}
@@ -46,7 +45,7 @@ pub row_local : (rows : List Row) (t g : ℕ) → row_of rows t g ≡ row_of (ro
 row_local rows t g = line_kept (λ r. eqb r.ground g) same_row row_key (record { transaction = t; ground = g }) (other_row t g) rows
 
 -- A note of another ground says nothing.
-silent : (m : Model) (t g : ℕ) (x : Note) → eqb (ground_of x.key) g ≡ false → note_effect m t g x ≡ Nothing
+silent : (m : Model) (t g : ℕ) (x : Note) → eqb (ground_of x.key) g ≡ false → note_effect m t g x ≡ None
 silent m t g x e = cond-false _ _ _ e
 
 -- A line of another ground raises nothing.
@@ -54,7 +53,7 @@ elsewhere : {A : Type 0} (t g u k : ℕ) (xs : List A) → eqb (ground_of k) g �
 elsewhere t g u k xs e = cond-false _ _ _ (and_right (eqb u t) _ e)
 
 -- A row of another ground joins no list.
-unjoined : (on : Effect → Bool) (m : Model) (t g : ℕ) (r : Row) → eqb r.ground g ≡ false → joins on m t g r ≡ false
+unjoined : (on : Option Effect → Bool) (m : Model) (t g : ℕ) (r : Row) → eqb r.ground g ≡ false → joins on m t g r ≡ false
 unjoined on m t g r e = and_left (eqb r.ground g) _ e
 
 module _ (g : ℕ) (m n : Model) (a : Agree g m n) where
@@ -65,10 +64,10 @@ module _ (g : ℕ) (m n : Model) (a : Agree g m n) where
   module _ (t : ℕ) where
     -- A note means the same in both.
     effect_same : (x : Note) → note_effect m t g x ≡ note_effect n t g x
-    effect_same x = ap (λ o. cond (eqb (ground_of x.key) g) (effect_with x t o) Nothing) (row_same (other_party x t))
+    effect_same x = ap (λ o. cond (eqb (ground_of x.key) g) (effect_with x t o) None) (row_same (other_party x t))
 
     -- What all notes together say by a list for each.
-    notes_same : (f : Effect → List ℤ) → f Nothing ≡ []
+    notes_same : (f : Option Effect → List ℤ) → f None ≡ []
         → flat_map (λ x. f (note_effect m t g x)) m.notes ≡ flat_map (λ x. f (note_effect n t g x)) n.notes
     notes_same f e =
         let here : Note → Bool = λ x. eqb (ground_of x.key) g in
@@ -111,7 +110,7 @@ module _ (g : ℕ) (m n : Model) (a : Agree g m n) where
     ceilings_same = notes_same effect_ceiling refl
 
     -- A row joins a list in both registers or in neither.
-    joins_same : (on : Effect → Bool) → on Nothing ≡ false → (r : Row) → joins on m t g r ≡ joins on n t g r
+    joins_same : (on : Option Effect → Bool) → on None ≡ false → (r : Row) → joins on m t g r ≡ joins on n t g r
     joins_same on e r =
         let names : (q : Model) → Note → Bool = λ q x. on (note_effect q t g x) && eqb (other_party x t) r.transaction in
         let local : (q : Model) → any (names q) q.notes ≡ any (names q) (notes_at g q.notes) =
@@ -123,7 +122,7 @@ module _ (g : ℕ) (m n : Model) (a : Agree g m n) where
         (local m ∙ (ap (any (names m)) a.notes ∙ (ap (λ h. any h (notes_at g n.notes)) same ∙ sym (local n))))
 
     -- The rows that join a list are the same.
-    joined_rows : (on : Effect → Bool) → on Nothing ≡ false → filter (joins on m t g) m.rows ≡ filter (joins on n t g) n.rows
+    joined_rows : (on : Option Effect → Bool) → on None ≡ false → filter (joins on m t g) m.rows ≡ filter (joins on n t g) n.rows
     joined_rows on e =
         let local : (q : Model) → filter (joins on q t g) q.rows ≡ filter (joins on q t g) (rows_at g q.rows) =
         λ q. kept_kept (λ r. eqb r.ground g) (joins on q t g) (unjoined on q t g) q.rows in

@@ -4,9 +4,10 @@
 --   in_map, in_joined, in_kept   of a list that is mapped, of what lines give together, of the lines that pass a test
 --   in_found                     a line that is found is one of the list
 --   in_all, in_none              what holds of every line; a test that no line passes
-use Rattle.std.proofs.Common.{◌≡◌, ℕ, Bool, true, false, cond, ◌⊎◌, List, [], ◌∷◌, ◌++◌, map, Some, filter, sym, refl, ap, ◌∙◌, subst, inl, inr, arith}
+use Rattle.std.proofs.Common.{◌≡◌, Bool, true, false, cond, ◌⊎◌, List, [], ◌∷◌, ◌++◌, map, Some, filter, sym, refl, ap, ◌∙◌, subst, inl, inr}
 use Rattle.std.proofs.lemmas.Bool.{or_parts}
 use Rattle.std.specs.List.{flat_map, AllByRecursion}
+use Rattle.wire.proofs.Clash.{clash}
 use Rattle.book.specs.Books.{line_with}
 use Rattle.register.specs.Checks.{any}
 
@@ -53,7 +54,7 @@ in_kept p x (z ∷ zs) t (inr i) = go (p z) (in_kept p x zs t i)
 -- A line that is found is one of the list.
 pub in_found : {X K : Type 0} (same : K → K → Bool) (f : X → K) (k : K) (xs : List X) (x : X)
     → line_with same f k xs ≡ Some x → In x xs
-in_found same f k [] x e = let z : ◌≡◌ {A = ℕ} 0 1 = cc in absurd (omega arith)
+in_found same f k [] x e = clash cc
 in_found same f k (y ∷ ys) x e = go (same (f y) k) e (λ d. in_found same f k ys x d)
   where
     go : (b : Bool) → cond b (Some y) (line_with same f k ys) ≡ Some x → (line_with same f k ys ≡ Some x → In x ys)

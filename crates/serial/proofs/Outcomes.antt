@@ -1,8 +1,9 @@
 -- What can come of a call: it is refused and nothing changes, or it leaves the register that the rules say, with what its checks found.
 --   NAME-cases Q ..   Q holds of the outcome of a call if it holds of each way in which the call can end
-use Rattle.std.proofs.Common.{◌≡◌, ℕ, Bool, true, false, cond, [], ◌∷◌, ◌++◌, length, ℤ, Some, None, Ok, Err, Option, Result, refl, arith}
+use Rattle.std.proofs.Common.{◌≡◌, ℕ, Bool, true, false, cond, [], ◌∷◌, ◌++◌, length, ℤ, Some, None, Ok, Err, Option, Result, refl}
 use lib.Signed.{lt_z}
 use Rattle.store.specs.declared.cell.Cell.{Cell}
+use Rattle.wire.proofs.Clash.{clash}
 use Rattle.wire.specs.Keys.{ground_of}
 use Rattle.wire.specs.declared.refusal.Refusal.{Refusal}
 use Rattle.wire.specs.declared.refusal.Refusal.TheVariants.{NoRoom}
@@ -15,7 +16,7 @@ use Rattle.lines.specs.declared.access.WriteLine.{WriteLine}
 use Rattle.lines.specs.declared.row.Event.{Event}
 use Rattle.lines.specs.declared.row.Row.{Row}
 use Rattle.lines.specs.declared.transaction.Decision.{Decision}
-use Rattle.lines.specs.declared.transaction.Decision.TheVariants.{Open, Aborted}
+use Rattle.lines.specs.declared.transaction.Decision.TheVariants.{Aborted}
 use Rattle.register.specs.Calls.{begin, read, read_by, prewrite, prewrite_by, validate, decide, withdraw, settle, settle_by}
 use Rattle.register.specs.Checks.{
   after,
@@ -49,17 +50,17 @@ after_cases Q m (Err e) f no_way go_on = no_way e
 
 -- The cell that the check passes on.
 cell_some : (o : Option Cell) (c : Cell) → cell_here o ≡ Ok c → o ≡ Some c
-cell_some None c e = let z : ◌≡◌ {A = ℕ} 0 1 = cc in absurd (omega arith)
+cell_some None c e = clash cc
 cell_some (Some x) c e = cc
 
 -- The row that the check passes on.
 pub here_some : (o : Option Row) (r : Row) → row_here o ≡ Ok r → o ≡ Some r
-here_some None r e = let z : ◌≡◌ {A = ℕ} 0 1 = cc in absurd (omega arith)
+here_some None r e = clash cc
 here_some (Some x) r e = cc
 
 module _ (m : Model) (t : ℕ) where
   pub begin_cases : (Q : Out Unit → Type 0) → ((e : Refusal) → Q (m, Err e))
-      → (new_number m t ≡ Ok tt → Q (with_transactions m (m.transactions ++ record { number = t; decision = Open } ∷ []), Ok tt))
+      → (new_number m t ≡ Ok tt → Q (with_transactions m (m.transactions ++ record { number = t; decision = None } ∷ []), Ok tt))
       → Q (begin m t)
   begin_cases Q refused done =
       after_cases Q m (new_number m t) _ refused (λ _ a.

@@ -1,7 +1,8 @@
 -- A row that is Running or Validated belongs to a transaction that is pending there.
-use Rattle.std.proofs.Common.{◌≡◌, ℕ, Bool, true, false, ◌&&◌, eqb, List, [], ◌∷◌, ◌++◌, map, ℤ, Some, None, Ok, Option, Result, sym, refl, ap, ◌∙◌, ⊎_elim, arith}
+use Rattle.std.proofs.Common.{◌≡◌, ℕ, Bool, true, false, ◌&&◌, eqb, List, [], ◌∷◌, ◌++◌, map, ℤ, Some, None, Ok, Option, Result, sym, refl, ap, ◌∙◌, ⊎_elim, Err}
 use Rattle.std.proofs.lemmas.Bool.{and_right, and_from, eq-eqb, not_from_false, or_left, or_right, true≢false}
 use Rattle.std.specs.Option.{option_map}
+use Rattle.wire.proofs.Clash.{clash}
 use Rattle.wire.specs.Keys.{ground_of}
 use Rattle.wire.specs.declared.refusal.Refusal.{Refusal}
 use Rattle.wire.specs.declared.refusal.Refusal.TheVariants.{NotRunning}
@@ -16,7 +17,7 @@ use Rattle.lines.specs.declared.row.State.TheVariants.{Running, Validated, Commi
 use Rattle.lines.specs.declared.transaction.Decision.{Decision}
 use Rattle.lines.specs.declared.transaction.Decision.TheVariants as decision
 use Rattle.lines.specs.declared.transaction.Transaction.{Transaction}
-use Rattle.register.specs.Calls.{step, done, value_reply, verdict_reply, decide_reply, withdraw_reply}
+use Rattle.register.specs.Calls.{Response, step, done, value_reply, verdict_reply, decide_reply, withdraw_reply}
 use Rattle.register.specs.Checks.{event_of, decided_line, is_running, running, unless}
 use Rattle.register.specs.Decisions.{decision_by}
 use Rattle.register.specs.Model.{Model, Chooses, transaction_of}
@@ -24,7 +25,6 @@ use Rattle.register.specs.Noting.{row_needed}
 use Rattle.register.specs.Validation.{pushed, row_moved}
 use Rattle.register.specs.declared.call.Call.{Call}
 use Rattle.register.specs.declared.call.Call.TheVariants as call
-use Rattle.register.specs.declared.call.Reply.{Reply}
 use Rattle.register.specs.declared.call.Reply.TheVariants as reply
 use Rattle.serial.specs.Days.{Day, next, day_after}
 use Rattle.serial.specs.Ledger.{History, finishes, touches, pending}
@@ -36,15 +36,15 @@ abbrev pub LivePending : List Row → History → Type 0
 LivePending rows h = (u j : ℕ) (r : Row) → row_of rows u j ≡ Some r → live r.state ≡ true → pending h u j ≡ true
 
 -- What an entry that finishes nothing leaves pending stays so.
-still : (c : Call) (a : Reply) (h : History) (u j : ℕ) → finishes u j c a ≡ false → pending h u j ≡ true → pending ((c, a) ∷ h) u j ≡ true
+still : (c : Call) (a : Response) (h : History) (u j : ℕ) → finishes u j c a ≡ false → pending h u j ≡ true → pending ((c, a) ∷ h) u j ≡ true
 still c a h u j f p = and_from _ _ (not_from_false _ f) (or_right (touches u j c a) _ p)
 
 -- What an entry touches and does not finish is pending.
-touched : (c : Call) (a : Reply) (h : History) (u j : ℕ) → finishes u j c a ≡ false → touches u j c a ≡ true → pending ((c, a) ∷ h) u j ≡ true
+touched : (c : Call) (a : Response) (h : History) (u j : ℕ) → finishes u j c a ≡ false → touches u j c a ≡ true → pending ((c, a) ∷ h) u j ≡ true
 touched c a h u j f p = and_from _ _ (not_from_false _ f) (or_left (touches u j c a) _ p)
 
 -- A refused call finishes nothing.
-refused_not : (c : Call) (e : Refusal) (u j : ℕ) → finishes u j c (reply.Refused e) ≡ false
+refused_not : (c : Call) (e : Refusal) (u j : ℕ) → finishes u j c (Err e) ≡ false
 refused_not (call.Begin t) e u j = refl
 refused_not (call.Read t k) e u j = refl
 refused_not (call.Prewrite t k v) e u j = refl
@@ -54,12 +54,12 @@ refused_not (call.Withdraw t) e u j = refl
 refused_not (call.Settle t g) e u j = and_right (eqb t u) _ (and_right (eqb g j) _ refl)
 
 -- Where rows stay and nothing is finished, all stays.
-same_rows : (c : Call) (a : Reply) (rows : List Row) (h : History) → ((u j : ℕ) → finishes u j c a ≡ false) → LivePending rows h
+same_rows : (c : Call) (a : Response) (rows : List Row) (h : History) → ((u j : ℕ) → finishes u j c a ≡ false) → LivePending rows h
     → LivePending rows ((c, a) ∷ h)
 same_rows c a rows h f p u j r e l = still c a h u j (f u j) (p u j r e l)
 
 -- A new row is pending by the call that needed it.
-new_row_pending : (c : Call) (a : Reply) (rows : List Row) (h : History) (t g : ℕ) → ((u j : ℕ) → finishes u j c a ≡ false)
+new_row_pending : (c : Call) (a : Response) (rows : List Row) (h : History) (t g : ℕ) → ((u j : ℕ) → finishes u j c a ≡ false)
     → touches t g c a ≡ true → LivePending rows h → LivePending (rows ++ row_needed (row_of rows t g) t g) ((c, a) ∷ h)
 new_row_pending c a rows h t g f s p u j r e l =
     ⊎_elim
@@ -68,7 +68,7 @@ new_row_pending c a rows h t g f s p u j r e l =
     (added_row rows t g u j r e)
 
 -- A row that was moved: its own is pending or not live any more, and the others are as before.
-moved_pending : (c : Call) (a : Reply) (rows : List Row) (h : History) (t g : ℕ) (x r : Row) (e : Event)
+moved_pending : (c : Call) (a : Response) (rows : List Row) (h : History) (t g : ℕ) (x r : Row) (e : Event)
     → row_of rows t g ≡ Some x → same_row (row_key r) (key t g) ≡ true
     → ((u j : ℕ) → (eqb t u && eqb g j) ≡ false → finishes u j c a ≡ false)
     → (live (moved r e).0.state ≡ true → pending ((c, a) ∷ h) t g ≡ true)
@@ -90,9 +90,9 @@ running_is r e = go r.state e
   where
     go : (s : State) → unless (is_running s) NotRunning ≡ Ok tt → s ≡ Running
     go Running q = refl
-    go Validated q = let z : ◌≡◌ {A = ℕ} 0 1 = cc in absurd (omega arith)
-    go Committed q = let z : ◌≡◌ {A = ℕ} 0 1 = cc in absurd (omega arith)
-    go Aborted q = let z : ◌≡◌ {A = ℕ} 0 1 = cc in absurd (omega arith)
+    go Validated q = clash cc
+    go Committed q = clash cc
+    go Aborted q = clash cc
 
 -- The events that a decision brings about.
 abbrev Settling : Event → Type 0
@@ -102,13 +102,13 @@ Settling Abort = Unit {0}
 Settling (Commit c) = Unit {0}
 
 settling : (o : Option Transaction) (e : Event) → decided_line o ≡ Ok e → Settling e
-settling None e q = let z : ◌≡◌ {A = ℕ} 0 1 = cc in absurd (omega arith)
+settling None e q = clash cc
 settling (Some x) e q = go x.decision q
   where
-    go : (d : Decision) → event_of d ≡ Ok e → Settling e
-    go decision.Open s = let z : ◌≡◌ {A = ℕ} 0 1 = cc in absurd (omega arith)
-    go (decision.Committed c) s = let i : e ≡ Commit c = cc in rw i tt
-    go decision.Aborted s = let i : e ≡ Abort = cc in rw i tt
+    go : (d : Option Decision) → event_of d ≡ Ok e → Settling e
+    go None s = clash cc
+    go (Some (decision.Committed c)) s = let i : e ≡ Commit c = cc in rw i tt
+    go (Some decision.Aborted) s = let i : e ≡ Abort = cc in rw i tt
 
 -- A row that was settled is not live.
 settled_dead : (r : Row) (s : State) (e : Event) → Settling e → (moves r s e).1 ≡ Ok tt → live (moves r s e).0.state ≡ false
@@ -116,12 +116,12 @@ settled_dead r s (Pass l u) n q = absurd n
 settled_dead r s Fail n q = absurd n
 settled_dead r Running Abort n q = refl
 settled_dead r Validated Abort n q = refl
-settled_dead r Committed Abort n q = let z : ◌≡◌ {A = ℕ} 0 1 = cc in absurd (omega arith)
-settled_dead r Aborted Abort n q = let z : ◌≡◌ {A = ℕ} 0 1 = cc in absurd (omega arith)
-settled_dead r Running (Commit c) n q = let z : ◌≡◌ {A = ℕ} 0 1 = cc in absurd (omega arith)
+settled_dead r Committed Abort n q = clash cc
+settled_dead r Aborted Abort n q = clash cc
+settled_dead r Running (Commit c) n q = clash cc
 settled_dead r Validated (Commit c) n q = refl
-settled_dead r Committed (Commit c) n q = let z : ◌≡◌ {A = ℕ} 0 1 = cc in absurd (omega arith)
-settled_dead r Aborted (Commit c) n q = let z : ◌≡◌ {A = ℕ} 0 1 = cc in absurd (omega arith)
+settled_dead r Committed (Commit c) n q = clash cc
+settled_dead r Aborted (Commit c) n q = clash cc
 
 -- A row that failed its validation is not live.
 failed_dead : (r : Row) → r.state ≡ Running → live (moved r Fail).0.state ≡ false
@@ -143,27 +143,27 @@ pushed_live m t g range h p u j y q l =
     go (row_of m.rows u j) refl (sym (pushed_rows m t g range m.rows u j) ∙ q)
   where
     go : (o : Option Row) → row_of m.rows u j ≡ o → option_map (pushed m t g range) o ≡ Some y → pending h u j ≡ true
-    go None s d = let z : ◌≡◌ {A = ℕ} 0 1 = cc in absurd (omega arith)
+    go None s d = clash cc
     go (Some x) s d =
         let i : y ≡ pushed m t g range x = cc in
         p u j x s (ap (λ z. live z.state) (sym i) ∙ l)
 
 module _ (P : Chooses) (m : Model) (h : History) (p : LivePending m.rows h) where
   -- What holds of the rows and the reply after a call.
-  abbrev After : {B : Type 0} → Call → (Result B Refusal → Reply) → Out B → Type 0
+  abbrev After : {B : Type 0} → Call → (Result B Refusal → Response) → Out B → Type 0
   After c f o = LivePending o.0.rows ((c, f o.1) ∷ h)
 
   here_touched : (t g : ℕ) → (eqb t t && (eqb g g && true)) ≡ true
   here_touched t g = and_from (eqb t t) _ (eq-eqb t t refl) (and_from (eqb g g) true (eq-eqb g g refl) refl)
 
   -- A refused call leaves all as it was.
-  refused_live : (c : Call) (e : Refusal) → LivePending m.rows ((c, reply.Refused e) ∷ h)
-  refused_live c e = same_rows c (reply.Refused e) m.rows h (refused_not c e) p
+  refused_live : (c : Call) (e : Refusal) → LivePending m.rows ((c, Err e) ∷ h)
+  refused_live c e = same_rows c (Err e) m.rows h (refused_not c e) p
 
   pub live_step : (c : Call) → LivePending (step P m c).0.rows ((c, (step P m c).1) ∷ h)
   live_step (call.Begin t) =
       begin_cases m t (After (call.Begin t) done) (refused_live (call.Begin t))
-      (λ _. same_rows (call.Begin t) reply.Done m.rows h (λ _ _. refl) p)
+      (λ _. same_rows (call.Begin t) (Ok reply.Done) m.rows h (λ _ _. refl) p)
   live_step (call.Read t k) =
       read_cases m t k (After (call.Read t k) value_reply) (refused_live (call.Read t k))
       (λ r _ _. same_rows (call.Read t k) (value_reply (Ok (r.value, r.seen))) m.rows h (λ _ _. refl) p)
@@ -172,9 +172,9 @@ module _ (P : Chooses) (m : Model) (h : History) (p : LivePending m.rows h) wher
       (here_touched t (ground_of k)) p)
   live_step (call.Prewrite t k v) =
       prewrite_cases m t k v (After (call.Prewrite t k v) done) (refused_live (call.Prewrite t k v))
-      (λ w _ _ _. same_rows (call.Prewrite t k v) reply.Done m.rows h (λ _ _. refl) p)
+      (λ w _ _ _. same_rows (call.Prewrite t k v) (Ok reply.Done) m.rows h (λ _ _. refl) p)
       (λ c _ _ _ _.
-      new_row_pending (call.Prewrite t k v) reply.Done m.rows h t (ground_of k) (λ _ _. refl) (here_touched t (ground_of k)) p)
+      new_row_pending (call.Prewrite t k v) (Ok reply.Done) m.rows h t (ground_of k) (λ _ _. refl) (here_touched t (ground_of k)) p)
   live_step (call.Validate t g) =
       validate_cases m t g P (After (call.Validate t g) verdict_reply) (refused_live (call.Validate t g))
       (λ r _ at run _.
@@ -183,7 +183,7 @@ module _ (P : Chooses) (m : Model) (h : History) (p : LivePending m.rows h) wher
       (λ l. absurd (true≢false (sym l ∙ failed_dead r (running_is r run)))) p)
       (λ r _ at run _.
       let range : ℤ × ℤ = chosen m t g P r in
-      let a : Reply = verdict_reply (Ok (Some range)) in
+      let a : Response = verdict_reply (Ok (Some range)) in
       moved_pending (call.Validate t g) a (map (pushed m t g range) m.rows) h t g (pushed m t g range r) r
       (Pass range.0 range.1)
       (pushed_rows m t g range m.rows t g ∙ ap (option_map (pushed m t g range)) at) (found_key m.rows t g r at)
@@ -199,7 +199,7 @@ module _ (P : Chooses) (m : Model) (h : History) (p : LivePending m.rows h) wher
   live_step (call.Settle t g) =
       settle_cases m t g (After (call.Settle t g) done) (refused_live (call.Settle t g))
       (λ e r dec at ok.
-      moved_pending (call.Settle t g) reply.Done m.rows h t g r r e at (found_key m.rows t g r at)
+      moved_pending (call.Settle t g) (Ok reply.Done) m.rows h t g r r e at (found_key m.rows t g r at)
       (λ u j n. elsewhere_not t g u j true n)
       (λ l. absurd (true≢false (sym l ∙ settled_dead r r.state e (settling (transaction_of m t) e dec) ok))) p)
 

@@ -13,7 +13,6 @@ use Rattle.lines.specs.Locks.{row_of}
 use Rattle.lines.specs.declared.access.ReadLine.{ReadLine}
 use Rattle.lines.specs.declared.access.WriteLine.{WriteLine}
 use Rattle.lines.specs.declared.note.Effect.{Effect}
-use Rattle.lines.specs.declared.note.Effect.TheVariants.{Nothing}
 use Rattle.lines.specs.declared.note.Note.{Note}
 use Rattle.lines.specs.declared.row.Row.{Row}
 use Rattle.register.specs.Checks.{any}
@@ -65,14 +64,14 @@ abbrev pub Unnamed : ℕ → Note → Type 0
 Unnamed t n = (eqb n.first t ≡ false) × (eqb n.second t ≡ false)
 
 module _ (m : Model) (t g : ℕ) where
-  says_nothing : (n : Note) → Unnamed t n → note_effect m t g n ≡ Nothing
+  says_nothing : (n : Note) → Unnamed t n → note_effect m t g n ≡ None
   says_nothing n q = whether (eqb (ground_of n.key) g) (of_row (row_of m.rows (other_party n t) g))
     where
-      of_row : (o : Option Row) → effect_with n t o ≡ Nothing
+      of_row : (o : Option Row) → effect_with n t o ≡ None
       of_row None = refl
       of_row (Some r) = uninvolved n t r q.0 q.1
 
-      whether : (b : Bool) {e : Effect} → e ≡ Nothing → cond b e Nothing ≡ Nothing
+      whether : (b : Bool) {e : Option Effect} → e ≡ None → cond b e None ≡ None
       whether true i = i
       whether false i = refl
 
@@ -83,7 +82,7 @@ module _ (m : Model) (t g : ℕ) where
     no_note_floors : flat_map (λ n. effect_floor (note_effect m t g n)) m.notes ≡ []
     no_note_floors = joined_none (Unnamed t) _ (λ n q. ap effect_floor (says_nothing n q)) m.notes quiet
 
-    pub joins_none : (on : Effect → Bool) → on Nothing ≡ false → (r : Row) → joins on m t g r ≡ false
+    pub joins_none : (on : Option Effect → Bool) → on None ≡ false → (r : Row) → joins on m t g r ≡ false
     joins_none on e r =
         and_right (eqb r.ground g) _
         (any_none (Unnamed t) (λ n. on (note_effect m t g n) && eqb (other_party n t) r.transaction)

@@ -1,6 +1,7 @@
 -- Rows by their transaction and ground.
 use Rattle.std.proofs.Common.{◌≡◌, ℕ, Bool, true, false, cond, ◌&&◌, eqb, ◌⊎◌, List, ◌++◌, map, ℤ, Some, None, Option, sym, refl, ap, ◌∙◌, inl, inr, ⊎_elim}
-use Rattle.std.proofs.lemmas.Bool.{and_left, and_right, and_parts, cases_eq, ne_eqb, eqb-true, true≢false}
+use Rattle.wire.proofs.Clash.{clash}
+use Rattle.std.proofs.lemmas.Bool.{and_left, and_right, and_parts, cases_eq, ne_eqb, eqb-true}
 use Rattle.std.specs.Option.{option_map}
 use Rattle.lines.proofs.Rows.{moves_owner}
 use Rattle.lines.specs.LineKeys.{row_key, same_row}
@@ -43,9 +44,6 @@ module _ (rows : List Row) (t g : ℕ) (r : Row) (at : row_of rows t g ≡ Some 
   pub found_key : same_row (row_key r) (key t g) ≡ true
   found_key = line_passes same_row row_key (key t g) rows r at
 
-  moved_key : (e : Event) → same_row (row_key (moved r e).0) (key t g) ≡ true
-  moved_key e = ap (λ h. same_row h (key t g)) (moves_owner r r.state e) ∙ found_key
-
 -- The own row after an event, and the rows of other keys.
 module _ (rows : List Row) (t g : ℕ) (r : Row) (e : Event) where
   pub own_moved : (x : Row) → row_of rows t g ≡ Some x → same_row (row_key r) (key t g) ≡ true
@@ -75,7 +73,7 @@ added_row rows t g u j r e = go (row_of rows t g) refl (sym (find_append same_ro
     single true s d =
         let p = and_parts (eqb t u) _ s in
         (sym (eqb-true _ _ p.0), sym (eqb-true _ _ p.1), cc)
-    single false s d = let z : ◌≡◌ {A = ℕ} 0 1 = cc in absurd (true≢false (cc))
+    single false s d = clash cc
 
     first_or : (o : Option Row) → row_of rows u j ≡ o → or_else o (cond (eqb t u && eqb g j) (Some (new_row t g)) None) ≡ Some r
         → (row_of rows u j ≡ Some r) ⊎ ((u ≡ t) × (j ≡ g) × (r ≡ new_row t g))

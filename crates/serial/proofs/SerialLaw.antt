@@ -6,6 +6,7 @@ use Rattle.std.proofs.lemmas.Bool.{true≢false}
 use Rattle.std.specs.Option.{option_map}
 use Rattle.store.specs.Stores.{Cells}
 use Rattle.store.specs.declared.cell.Cell.{Cell}
+use Rattle.wire.proofs.Clash.{clash}
 use Rattle.wire.specs.Keys.{ground_of}
 use Rattle.lines.specs.Locks.{live, row_of}
 use Rattle.lines.specs.declared.row.Row.{Row}
@@ -26,14 +27,14 @@ use Rattle.serial.proofs.Sources.{Passed, settled_commit, wrote, as_writer, abov
 
 -- A row that shows Past and not settled is live.
 validated_live : (o : Option Row) (l u : ℤ) → row_fate o ≡ Past false l u → (r : Row) × (o ≡ Some r) × (live r.state ≡ true)
-validated_live None l u e = let z : ◌≡◌ {A = ℕ} 0 1 = cc in absurd (omega arith)
+validated_live None l u e = clash cc
 validated_live (Some r) l u e = (r, refl, go r.state e)
   where
     go : (s : State) → fate_by s r.lower r.upper ≡ Past false l u → live s ≡ true
     go state.Running d = refl
     go state.Validated d = refl
     go state.Committed d = let i : true ≡ false = cc in absurd (true≢false i)
-    go state.Aborted d = let z : ◌≡◌ {A = ℕ} 0 1 = cc in absurd (omega arith)
+    go state.Aborted d = clash cc
 
 -- What is not there is None.
 none_there : (o : Option ℤ) → ((x : ℤ) → o ≡ Some x → ⊥) → o ≡ None
@@ -96,7 +97,7 @@ module _ (cells : Cells) (h : History) (m : Model) (H : Holds cells h m) where
       never d e y put =
           let f = H.sound.has d.number k y put in
           let s = f.1 in
-          let z : ◌≡◌ {A = ℕ} 0 1 = cc in omega arith
+          clash cc
 
       go : (a : Option Cell) → cells k ≡ a → (b : Option Cell) → m.cells k ≡ b → kept_cell cells (view h m) k a b
           → Final h (values cells) k (option_map (λ x. x.value) (m.cells k))

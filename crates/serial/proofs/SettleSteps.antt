@@ -1,7 +1,8 @@
 -- A settlement keeps the invariant, by what was decided; and what was decided suits every ground.
-use Rattle.std.proofs.Common.{◌≡◌, ℕ, false, ◌∷◌, pos, ◌≤ℤ◌, Some, None, Ok, Option, sym, refl, ap, ◌∙◌, subst, arith}
+use Rattle.std.proofs.Common.{◌≡◌, ℕ, false, ◌∷◌, pos, ◌≤ℤ◌, Some, None, Ok, Option, sym, refl, ap, ◌∙◌, subst}
 use Rattle.std.proofs.lemmas.Bool.{true≢false}
 use Rattle.store.specs.Stores.{Cells}
+use Rattle.wire.proofs.Clash.{clash}
 use Rattle.wire.specs.declared.stamp.Stamp.{Stamp}
 use Rattle.lines.specs.Locks.{row_of}
 use Rattle.lines.specs.Rows.{moved, moves}
@@ -47,7 +48,7 @@ module _ (m : Model) (h : History) (L : Linked h m) where
 module _ (first : Cells) (m : Model) (h : History) (L : Linked h m) (S : Sound first (view h m)) (stamped : Stamped h) where
   -- What a settlement does by the decision.
   pub sound_settled : (t g : ℕ) (r : Row) (e : Event) → decided_now m t ≡ Ok e → row_of m.rows t g ≡ Some r → (moved r e).1 ≡ Ok tt
-      → Sound first (view ((call.Settle t g, reply.Done) ∷ h) (settled m t g r e))
+      → Sound first (view ((call.Settle t g, (Ok reply.Done)) ∷ h) (settled m t g r e))
   sound_settled t g r e dec at ok = by_line (transaction_of m t) refl dec
     where
       shown : (s : State) → r.state ≡ s → fate h t g ≡ fate_by s r.lower r.upper
@@ -56,33 +57,33 @@ module _ (first : Cells) (m : Model) (h : History) (L : Linked h m) (S : Sound f
       aborting : (s : State) → r.state ≡ s → (moves r s Abort).1 ≡ Ok tt → Unsettled (fate h t g)
       aborting state.Running i q = subst Unsettled (sym (shown state.Running i)) tt
       aborting state.Validated i q = subst Unsettled (sym (shown state.Validated i)) tt
-      aborting state.Committed i q = let z : ◌≡◌ {A = ℕ} 0 1 = cc in absurd (omega arith)
-      aborting state.Aborted i q = let z : ◌≡◌ {A = ℕ} 0 1 = cc in absurd (omega arith)
+      aborting state.Committed i q = clash cc
+      aborting state.Aborted i q = clash cc
 
       committing : (c : Stamp) → stamp_of h t ≡ Some c.number → (s : State) → r.state ≡ s → (moves r s (Commit c)).1 ≡ Ok tt
-          → Sound first (view ((call.Settle t g, reply.Done) ∷ h) (settled m t g r (Commit c)))
-      committing c i state.Running j q = let z : ◌≡◌ {A = ℕ} 0 1 = cc in absurd (omega arith)
+          → Sound first (view ((call.Settle t g, (Ok reply.Done)) ∷ h) (settled m t g r (Commit c)))
+      committing c i state.Running j q = clash cc
       committing c i state.Validated j q =
           let p = subst (Suits c.number) (shown state.Validated j) (stamped.suits t c.number g i) in
           settles_at first m h L S t g r c r.lower r.upper i (shown state.Validated j) p.0 p.1
-      committing c i state.Committed j q = let z : ◌≡◌ {A = ℕ} 0 1 = cc in absurd (omega arith)
-      committing c i state.Aborted j q = let z : ◌≡◌ {A = ℕ} 0 1 = cc in absurd (omega arith)
+      committing c i state.Committed j q = clash cc
+      committing c i state.Aborted j q = clash cc
 
-      by_decision : (x : Transaction) → transaction_of m t ≡ Some x → (d : Decision) → x.decision ≡ d → event_of d ≡ Ok e
-          → Sound first (view ((call.Settle t g, reply.Done) ∷ h) (settled m t g r e))
-      by_decision x i decision.Open j q = let z : ◌≡◌ {A = ℕ} 0 1 = cc in absurd (omega arith)
-      by_decision x i (decision.Committed c) j q =
+      by_decision : (x : Transaction) → transaction_of m t ≡ Some x → (d : Option Decision) → x.decision ≡ d → event_of d ≡ Ok e
+          → Sound first (view ((call.Settle t g, (Ok reply.Done)) ∷ h) (settled m t g r e))
+      by_decision x i None j q = clash cc
+      by_decision x i (Some (decision.Committed c)) j q =
           let s : stamp_of h t ≡ Some c.number = L.stamps t ∙ ap line_stamp i ∙ ap decided_stamp j in
           let is : Commit c ≡ e = cc in
-          subst (λ v. Sound first (view ((call.Settle t g, reply.Done) ∷ h) (settled m t g r v))) is
+          subst (λ v. Sound first (view ((call.Settle t g, (Ok reply.Done)) ∷ h) (settled m t g r v))) is
           (committing c s r.state refl (subst (λ v. (moved r v).1 ≡ Ok tt) (sym is) ok))
-      by_decision x i decision.Aborted j q =
+      by_decision x i (Some decision.Aborted) j q =
           let s : stamp_of h t ≡ None = L.stamps t ∙ ap line_stamp i ∙ ap decided_stamp j in
           let is : Abort ≡ e = cc in
-          subst (λ v. Sound first (view ((call.Settle t g, reply.Done) ∷ h) (settled m t g r v))) is
+          subst (λ v. Sound first (view ((call.Settle t g, (Ok reply.Done)) ∷ h) (settled m t g r v))) is
           (settles_gone first m h L S t g r s (aborting r.state refl (subst (λ v. (moved r v).1 ≡ Ok tt) (sym is) ok)))
 
       by_line : (o : Option Transaction) → transaction_of m t ≡ o → decided_line o ≡ Ok e
-          → Sound first (view ((call.Settle t g, reply.Done) ∷ h) (settled m t g r e))
-      by_line None i q = let z : ◌≡◌ {A = ℕ} 0 1 = cc in absurd (omega arith)
+          → Sound first (view ((call.Settle t g, (Ok reply.Done)) ∷ h) (settled m t g r e))
+      by_line None i q = clash cc
       by_line (Some x) i q = by_decision x i x.decision refl q

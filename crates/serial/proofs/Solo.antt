@@ -11,9 +11,8 @@ use Rattle.std.specs.Option.{option_map}
 use Rattle.std.specs.List.{AllByRecursion}
 use Rattle.store.specs.Stores.{Cells}
 use Rattle.store.specs.declared.cell.Cell.{Cell}
+use Rattle.wire.proofs.Clash.{clash}
 use Rattle.wire.specs.Keys.{ground_of}
-use Rattle.wire.specs.Stamps.{stamp_of_bound}
-use Rattle.wire.specs.declared.stamp.Stamp.{Stamp}
 use Rattle.wire.specs.declared.refusal.Refusal.{Refusal}
 use Rattle.wire.specs.declared.refusal.Refusal.TheVariants.{ReadAfterPrewrite}
 use Rattle.lines.specs.LineKeys.{row_key, read_key, write_key, same_row, same_access}
@@ -30,15 +29,14 @@ use Rattle.lines.specs.declared.transaction.Decision.TheVariants as decision
 use Rattle.lines.specs.declared.transaction.Transaction.{Transaction}
 use Rattle.book.specs.Books.{line_with}
 use Rattle.register.proofs.Raising.{raised_least}
-use Rattle.register.specs.Calls.{step, prewrite_by, done, value_reply, verdict_reply, decide_reply, withdraw_reply}
-use Rattle.register.specs.Checks.{any, open_now, open_line, open_decision, decided_now, decided_line, event_of, unwritten, is_aborted}
-use Rattle.register.specs.Decisions.{committed_at, decision_of, decision_by, decided_as, settled, rows_of, largest_lower, smallest_upper}
+use Rattle.register.specs.Calls.{Response, step, prewrite_by, done, value_reply, verdict_reply, decide_reply, withdraw_reply}
+use Rattle.register.specs.Checks.{any, open_now, open_line, open_decision, decided_now, decided_line, event_of, unwritten}
+use Rattle.register.specs.Decisions.{decision_by, decided_as, settled}
 use Rattle.register.specs.Model.{Model, Chooses, transaction_of, with_transactions}
 use Rattle.register.specs.Noting.{locks_on, others, before_note, apart_note, write_locks, row_needed, read_added, prewrite_added}
 use Rattle.register.specs.Validation.{floors, lowered_below, afters, failed, passed, is_before, is_after, pushed, raise, lower}
 use Rattle.register.specs.declared.call.Call.{Call}
 use Rattle.register.specs.declared.call.Call.TheVariants as call
-use Rattle.register.specs.declared.call.Reply.{Reply}
 use Rattle.serial.specs.Alone.{Fresh, fresh_cell, caller, key_in}
 use Rattle.serial.specs.Days.{Meaning}
 use Rattle.serial.proofs.Found.{or_else, find_append, find_replaced, find_all, all_replaced}
@@ -122,7 +120,7 @@ unwritten_is m t e = go (any (λ w. eqb w.transaction t) m.writes) refl e
   where
     go : (b : Bool) → any (λ w. eqb w.transaction t) m.writes ≡ b → ◌≡◌ {A = Result Unit Refusal} (cond b (Err ReadAfterPrewrite) (Ok tt)) (Ok tt)
         → AllByRecursion (λ w. eqb w.transaction t ≡ false) m.writes
-    go true s q = let z : ◌≡◌ {A = ℕ} 0 1 = cc in absurd (omega arith)
+    go true s q = clash cc
     go false s q = unwritten_all t m.writes s
 
 -- The row that t needs is fine.
@@ -247,7 +245,7 @@ module _ (t : ℕ) (found : Cells) where
             (same_or_not t g u j)
           where
             go : (o : Option Row) → row_of m.rows u j ≡ o → option_map (pushed m t g (chosen m t g P r)) o ≡ Some y → u ≡ t
-            go None d h = let z : ◌≡◌ {A = ℕ} 0 1 = cc in absurd (omega arith)
+            go None d h = clash cc
             go (Some x) d h =
                 let i : y ≡ pushed m t g (chosen m t g P r) x = cc in
                 s.only u j x d (ap (λ z. live z.state) (sym i) ∙ l)
@@ -266,37 +264,27 @@ module _ (t : ℕ) (found : Cells) where
         }
 
   -- What a decision that is taken leaves: t is closed.
-  never_open : (rs : List Row) → open_decision (decision_of rs) ≡ Ok tt → ⊥
-  never_open rs e = go (any (λ r. is_aborted r.state) rs) (lt_z (smallest_upper rs) (largest_lower rs)) (stamp_of_bound (largest_lower rs)) e
-    where
-      go : (a b : Bool) (o : Option Stamp) → open_decision (cond a decision.Aborted (cond b decision.Aborted (committed_at o))) ≡ Ok tt → ⊥
-      go true b o q = let z : ◌≡◌ {A = ℕ} 0 1 = cc in absurd (omega arith)
-      go false true o q = let z : ◌≡◌ {A = ℕ} 0 1 = cc in absurd (omega arith)
-      go false false (Some c) q = let z : ◌≡◌ {A = ℕ} 0 1 = cc in absurd (omega arith)
-      go false false None q = let z : ◌≡◌ {A = ℕ} 0 1 = cc in absurd (omega arith)
-
-  closing : (m : Model) (d : Decision) → open_now m t ≡ Ok tt → (open_decision d ≡ Ok tt → ⊥) → Closed t (decided_as m t d)
-  closing m d e n = go (transaction_of m t) refl e
+  closing : (m : Model) (d : Decision) → open_now m t ≡ Ok tt → Closed t (decided_as m t d)
+  closing m d e = go (transaction_of m t) refl e
     where
       go : (o : Option Transaction) → transaction_of m t ≡ o → open_line o ≡ Ok tt → Closed t (decided_as m t d)
-      go None s q = let z : ◌≡◌ {A = ℕ} 0 1 = cc in absurd (omega arith)
+      go None s q = clash cc
       go (Some x) s q = record {
-        line = record { number = t; decision = d };
-        at = find_replaced eqb (λ y. y.number) t (record { number = t; decision = d }) x (eq-eqb t t refl) m.transactions s;
-        decided = n;
+        line = record { number = t; decision = Some d };
+        at = find_replaced eqb (λ y. y.number) t (record { number = t; decision = Some d }) x (eq-eqb t t refl) m.transactions s;
+        decided = λ n. clash cc;
       }
 
   -- Whoever is settled was decided.
   settled_closed : (m : Model) (e : Event) → decided_now m t ≡ Ok e → Closed t m
   settled_closed m e q = go (transaction_of m t) refl q
     where
-      not_open : (d : Decision) → event_of d ≡ Ok e → open_decision d ≡ Ok tt → ⊥
-      not_open decision.Open a b = let z : ◌≡◌ {A = ℕ} 0 1 = cc in absurd (omega arith)
-      not_open (decision.Committed c) a b = let z : ◌≡◌ {A = ℕ} 0 1 = cc in absurd (omega arith)
-      not_open decision.Aborted a b = let z : ◌≡◌ {A = ℕ} 0 1 = cc in absurd (omega arith)
+      not_open : (d : Option Decision) → event_of d ≡ Ok e → open_decision d ≡ Ok tt → ⊥
+      not_open None a b = clash cc
+      not_open (Some d) a b = clash cc
 
       go : (o : Option Transaction) → transaction_of m t ≡ o → decided_line o ≡ Ok e → Closed t m
-      go None s a = let z : ◌≡◌ {A = ℕ} 0 1 = cc in absurd (omega arith)
+      go None s a = clash cc
       go (Some x) s a = record { line = x; at = s; decided = not_open x.decision a }
 
   -- A transaction that is closed is not open.
@@ -319,7 +307,7 @@ module _ (t : ℕ) (found : Cells) where
 
   module _ (P : Chooses) (means : Meaning P) (m : Model) where
     -- Each call of t, with the keys that its reply says it named.
-    abbrev Then : Call → Reply → Model → Type 0
+    abbrev Then : Call → Response → Model → Type 0
     Then c a n = AllByRecursion (Fresh found) (key_in t c a) → Now n
 
     closed_step : (c : Call) → caller c ≡ t → Closed t m → Closed t (step P m c).0
@@ -354,10 +342,10 @@ module _ (t : ℕ) (found : Cells) where
           (λ r _ at run _ _. inr (pass_solo m s P g r at means (running_is r run))))
       own_step (call.Decide u) e =
           rw e (decide_cases m t (λ o. Then (call.Decide t) (decide_reply o.1) o.0) (λ _ _. inr s)
-          (λ now _ _. inl (closing m (decision_by m t) now (never_open (rows_of m t)))))
+          (λ now _ _. inl (closing m (decision_by m t) now)))
       own_step (call.Withdraw u) e =
           rw e (withdraw_cases m t (λ o. Then (call.Withdraw t) (withdraw_reply o.1) o.0) (λ _ _. inr s)
-          (λ now _. inl (closing m decision.Aborted now (λ q. let z : ◌≡◌ {A = ℕ} 0 1 = cc in absurd (omega arith)))))
+          (λ now _. inl (closing m decision.Aborted now)))
       own_step (call.Settle u g) e =
           rw e (settle_cases m t g (λ o. Then (call.Settle t g) (done o.1) o.0) (λ _ _. inr s)
           (λ d r now _ _ _. inl (same_closed m (settled m t g r d) (settled_closed m d now) refl)))

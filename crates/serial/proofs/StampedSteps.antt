@@ -1,11 +1,12 @@
 -- What holds of stamps lasts: only a decision gives one, and it suits every ground.
-use Rattle.std.proofs.Common.{◌≡◌, ℕ, true, false, cond, ◌&&◌, eqb, ◌∷◌, ℤ, pos, Some, None, Option, sym, refl, ap, ◌∙◌, subst, ap₂, inl, inr, ⊎_elim, arith}
+use Rattle.std.proofs.Common.{◌≡◌, ℕ, true, false, cond, ◌&&◌, eqb, ◌∷◌, ℤ, pos, Some, None, Option, sym, refl, ap, ◌∙◌, subst, ap₂, inl, inr, ⊎_elim, arith, Ok}
 use Rattle.std.proofs.lemmas.Int.{ints}
 use Rattle.std.proofs.lemmas.Bool.{cases_eq, eq-eqb, ne_eqb}
+use Rattle.wire.proofs.Clash.{clash}
 use Rattle.wire.specs.declared.stamp.Stamp.{Stamp}
 use Rattle.register.specs.declared.call.Call.{Call}
 use Rattle.register.specs.declared.call.Call.TheVariants as call
-use Rattle.register.specs.declared.call.Reply.{Reply}
+use Rattle.register.specs.Calls.{Response}
 use Rattle.register.specs.declared.call.Reply.TheVariants as reply
 use Rattle.serial.specs.Ledger.{History, commits}
 use Rattle.serial.proofs.Arrangement.{Once}
@@ -21,11 +22,11 @@ HasStamp h t l u = (c : ℕ) × (stamp_of h t ≡ Some c) × (l ≡ pos c) × (u
 
 -- A transaction has no stamp and a stamp.
 none_some : (o : Option ℕ) (c : ℕ) → o ≡ None → o ≡ Some c → ⊥
-none_some o c n s = let z : ◌≡◌ {A = ℕ} 0 1 = cc in omega arith
+none_some o c n s = clash cc
 
 module _ (h : History) (s : Stamped h) where
   -- An entry that says nothing new, and is no decision that commits.
-  pub silent_stamped : (e : Call × Reply) → Silent h e → commits (e ∷ h) ≡ commits h → Stamped (e ∷ h)
+  pub silent_stamped : (e : Call × Response) → Silent h e → commits (e ∷ h) ≡ commits h → Stamped (e ∷ h)
   silent_stamped e q cs = record {
     suits = λ t c g i. subst (Suits c) (sym (q.fates t g)) (s.suits t c g (sym (q.stamps t) ∙ i));
     settled = λ t g l u i.
@@ -36,7 +37,7 @@ module _ (h : History) (s : Stamped h) where
   }
 
   -- The fate of t at g turns, and no stamp is given.
-  pub turned_stamped : (e : Call × Reply) (t g : ℕ) → ((u : ℕ) → stamp_of (e ∷ h) u ≡ stamp_of h u) → commits (e ∷ h) ≡ commits h
+  pub turned_stamped : (e : Call × Response) (t g : ℕ) → ((u : ℕ) → stamp_of (e ∷ h) u ≡ stamp_of h u) → commits (e ∷ h) ≡ commits h
       → ((u j : ℕ) → (eqb t u && eqb g j) ≡ false → fate (e ∷ h) u j ≡ fate h u j)
       → ((c : ℕ) → stamp_of h t ≡ Some c → Suits c (fate (e ∷ h) t g))
       → ((l u : ℤ) → fate (e ∷ h) t g ≡ Past true l u → HasStamp h t l u)
@@ -64,22 +65,22 @@ module _ (h : History) (s : Stamped h) where
   }
 
   -- A settlement gives its transaction's stamp, if it has one, to both bounds.
-  pub settled_stamped : (t g : ℕ) → fate ((call.Settle t g, reply.Done) ∷ h) t g ≡ settled_at (stamp_of h t)
-      → ((u j : ℕ) → (eqb t u && eqb g j) ≡ false → fate ((call.Settle t g, reply.Done) ∷ h) u j ≡ fate h u j)
-      → Stamped ((call.Settle t g, reply.Done) ∷ h)
+  pub settled_stamped : (t g : ℕ) → fate ((call.Settle t g, (Ok reply.Done)) ∷ h) t g ≡ settled_at (stamp_of h t)
+      → ((u j : ℕ) → (eqb t u && eqb g j) ≡ false → fate ((call.Settle t g, (Ok reply.Done)) ∷ h) u j ≡ fate h u j)
+      → Stamped ((call.Settle t g, (Ok reply.Done)) ∷ h)
   settled_stamped t g own others =
-      turned_stamped (call.Settle t g, reply.Done) t g (λ u. refl) refl others
+      turned_stamped (call.Settle t g, (Ok reply.Done)) t g (λ u. refl) refl others
       (λ c i. subst (Suits c) (sym (own ∙ ap settled_at i)) (omega (arith, ints), omega (arith, ints)))
       (λ l u i. bounds (stamp_of h t) refl l u (sym own ∙ i))
     where
       bounds : (o : Option ℕ) → stamp_of h t ≡ o → (l u : ℤ) → settled_at o ≡ Past true l u → HasStamp h t l u
-      bounds None e l u i = let z : ◌≡◌ {A = ℕ} 0 1 = cc in absurd (omega arith)
+      bounds None e l u i = clash cc
       bounds (Some c) e l u i = (c, e, cc, cc)
 
   -- A decision to commit: nobody commits twice, and the stamp suits every ground.
   module _ (t : ℕ) (c : Stamp) (none : stamp_of h t ≡ None) (suits : (g : ℕ) → Suits c.number (fate h t g)) where
-    abbrev entry : Call × Reply
-    entry = (call.Decide t, reply.Committed c)
+    abbrev entry : Call × Response
+    entry = (call.Decide t, Ok (reply.Committed c))
 
     own_stamp : stamp_of (entry ∷ h) t ≡ Some c.number
     own_stamp = ap (λ b. cond b (Some c.number) (stamp_of h t)) (eq-eqb t t refl)

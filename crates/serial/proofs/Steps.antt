@@ -1,21 +1,21 @@
 -- Every call keeps what holds of a day.
 --   holds_new      it holds of a register that is new
 --   holds_step     and after each call, if it held before
-use Rattle.std.proofs.Common.{◌≡◌, ℕ, true, false, cond, ◌&&◌, eqb, [], ◌∷◌, ◌++◌, map, ℤ, Some, None, Ok, Option, Result, sym, refl, ap, ◌∙◌, subst, inl, arith}
+use Rattle.std.proofs.Common.{◌≡◌, ℕ, true, false, cond, ◌&&◌, eqb, [], ◌∷◌, ◌++◌, map, ℤ, Some, None, Ok, Option, Result, sym, refl, ap, ◌∙◌, subst, inl, arith, Err}
 use Rattle.store.specs.Stores.{Cells}
 use Rattle.store.specs.declared.cell.Cell.{Cell}
+use Rattle.wire.proofs.Clash.{clash}
 use Rattle.wire.specs.Keys.{ground_of}
 use Rattle.wire.specs.declared.refusal.Refusal.{Refusal}
 use Rattle.lines.specs.Locks.{row_of}
 use Rattle.lines.specs.declared.transaction.Decision.{Decision}
 use Rattle.lines.specs.declared.transaction.Decision.TheVariants as decision
-use Rattle.register.specs.Calls.{read, prewrite, validate, decide, withdraw, settle, step, done, value_reply, verdict_reply, decide_reply, decision_reply, withdraw_reply}
+use Rattle.register.specs.Calls.{Response, read, prewrite, validate, decide, withdraw, settle, step, done, value_reply, verdict_reply, decide_reply, decision_reply, withdraw_reply}
 use Rattle.register.specs.Checks.{open_now, none_running, unless_past}
 use Rattle.register.specs.Decisions.{decision_by}
 use Rattle.register.specs.Model.{Model, Chooses, Rooms, new, transaction_of}
 use Rattle.register.specs.declared.call.Call.{Call}
 use Rattle.register.specs.declared.call.Call.TheVariants as call
-use Rattle.register.specs.declared.call.Reply.{Reply}
 use Rattle.register.specs.declared.call.Reply.TheVariants as reply
 use Rattle.serial.specs.Days.{Meaning}
 use Rattle.serial.specs.Ledger.{History, stamp_in, commits}
@@ -57,38 +57,38 @@ module _ (first : Cells) (P : Chooses) (means : Meaning P) (m : Model) (h : Hist
 
   -- So whatever its fate becomes, no stamp has to suit it.
   no_suits : (t : ℕ) (f : Fate) → open_now m t ≡ Ok tt → (c : ℕ) → stamp_of h t ≡ Some c → Suits c f
-  no_suits t f now c i = let n = no_stamp t now in let z : ◌≡◌ {A = ℕ} 0 1 = cc in absurd (omega arith)
+  no_suits t f now c i = let n = no_stamp t now in clash cc
 
   -- The invariant after a call, and what holds of stamps.
-  abbrev After : {B : Type 0} → Call → (Result B Refusal → Reply) → Out B → Type 0
+  abbrev After : {B : Type 0} → Call → (Result B Refusal → Response) → Out B → Type 0
   After c f o = Sound first (view ((c, f o.1) ∷ h) o.0) × Stamped ((c, f o.1) ∷ h)
 
-  refused : (c : Call) → ((e : Refusal) → commits ((c, reply.Refused e) ∷ h) ≡ commits h) → (e : Refusal)
-      → Sound first (view ((c, reply.Refused e) ∷ h) m) × Stamped ((c, reply.Refused e) ∷ h)
+  refused : (c : Call) → ((e : Refusal) → commits ((c, Err e) ∷ h) ≡ commits h) → (e : Refusal)
+      → Sound first (view ((c, Err e) ∷ h) m) × Stamped ((c, Err e) ∷ h)
   refused c same e =
       let q = refused_silent h c e in
-      (silent_sound first m h (c, reply.Refused e) q S, silent_stamped h H.stamped (c, reply.Refused e) q (same e))
+      (silent_sound first m h (c, Err e) q S, silent_stamped h H.stamped (c, Err e) q (same e))
 
   -- An access by an open transaction, whose fate is then Running.
-  access_stamped : (e : Call × Reply) (t k : ℕ) → open_now m t ≡ Ok tt → ((u : ℕ) → stamp_of (e ∷ h) u ≡ stamp_of h u)
+  access_stamped : (e : Call × Response) (t k : ℕ) → open_now m t ≡ Ok tt → ((u : ℕ) → stamp_of (e ∷ h) u ≡ stamp_of h u)
       → commits (e ∷ h) ≡ commits h
       → ((u j : ℕ) → (eqb t u && eqb (ground_of k) j) ≡ false → fate (e ∷ h) u j ≡ fate h u j)
       → fate (e ∷ h) t (ground_of k) ≡ Running → Stamped (e ∷ h)
   access_stamped e t k now q cs others run =
       turned_stamped h H.stamped e t (ground_of k) q cs others (no_suits t (fate (e ∷ h) t (ground_of k)) now)
-      (λ l u i. let z : ◌≡◌ {A = ℕ} 0 1 = cc in absurd (omega arith))
+      (λ l u i. clash cc)
 
   sound_read : (t k : ℕ) → After (call.Read t k) value_reply (read m t k)
   sound_read t k =
       read_cases m t k (After (call.Read t k) value_reply) (refused (call.Read t k) (λ _. refl))
       (λ r _ at.
       let q = again_silent first m h L S t k r at in (
-        silent_sound first m h (call.Read t k, reply.Value r.value r.seen) q S,
-        silent_stamped h H.stamped (call.Read t k, reply.Value r.value r.seen) q refl,
+        silent_sound first m h (call.Read t k, Ok (reply.Value r.value r.seen)) q S,
+        silent_stamped h H.stamped (call.Read t k, Ok (reply.Value r.value r.seen)) q refl,
       ))
       (λ c now at free _ none. (
         read_first first m h L S t k free c at none,
-        access_stamped (call.Read t k, reply.Value c.value c.write) t k now (λ _. refl) refl
+        access_stamped (call.Read t k, Ok (reply.Value c.value c.write)) t k now (λ _. refl) refl
             (λ u j n. off_key_too t (ground_of k) u j (begun (fate h u j)) (fate h u j) n) (now_running first m h L S t k free),
       ))
 
@@ -98,9 +98,9 @@ module _ (first : Cells) (P : Chooses) (means : Meaning P) (m : Model) (h : Hist
       (λ w now free at. (prewrite_again first m h L S t k free v w at, stamped now free))
       (λ c now at free _. (prewrite_first first m h L S t k free v c at, stamped now free))
     where
-      stamped : open_now m t ≡ Ok tt → unless_past (row_of m.rows t (ground_of k)) ≡ Ok tt → Stamped ((call.Prewrite t k v, reply.Done) ∷ h)
+      stamped : open_now m t ≡ Ok tt → unless_past (row_of m.rows t (ground_of k)) ≡ Ok tt → Stamped ((call.Prewrite t k v, (Ok reply.Done)) ∷ h)
       stamped now free =
-          access_stamped (call.Prewrite t k v, reply.Done) t k now (λ _. refl) refl
+          access_stamped (call.Prewrite t k v, (Ok reply.Done)) t k now (λ _. refl) refl
           (λ u j n. off_key_too t (ground_of k) u j (begun (fate h u j)) (fate h u j) n) (now_running first m h L S t k free)
 
   sound_validate : (t g : ℕ) → After (call.Validate t g) verdict_reply (validate P m t g)
@@ -108,15 +108,15 @@ module _ (first : Cells) (P : Chooses) (means : Meaning P) (m : Model) (h : Hist
       validate_cases m t g P (After (call.Validate t g) verdict_reply) (refused (call.Validate t g) (λ _. refl))
       (λ r now at run _. (
         fails first m h L S t g r at run,
-        turned_stamped h H.stamped (call.Validate t g, reply.Aborted) t g (λ _. refl) refl (λ u j n. off_key t g u j Gone (fate h u j) n)
+        turned_stamped h H.stamped (call.Validate t g, (Ok reply.Aborted)) t g (λ _. refl) refl (λ u j n. off_key t g u j Gone (fate h u j) n)
             (no_suits t _ now)
-            (λ l u i. let o = at_key t g Gone (fate h t g) in let z : ◌≡◌ {A = ℕ} 0 1 = cc in absurd (omega arith)),
+            (λ l u i. let o = at_key t g Gone (fate h t g) in clash cc),
       ))
       (λ r now at run room.
       let l₁ : ℤ = (chosen m t g P r).0 in
       let u₁ : ℤ = (chosen m t g P r).1 in (
         passes_with first m h L S t g P means r at run room,
-        turned_stamped h H.stamped (call.Validate t g, reply.Range l₁ u₁) t g (λ _. refl) refl
+        turned_stamped h H.stamped (call.Validate t g, Ok (reply.Range l₁ u₁)) t g (λ _. refl) refl
             (λ u j n. off_key t g u j (Past false l₁ u₁) (fate h u j) n) (no_suits t _ now)
             (λ l u i. absurd (not_settled l₁ u₁ l u (sym (at_key t g (Past false l₁ u₁) (fate h t g)) ∙ i))),
       ))
@@ -129,7 +129,7 @@ module _ (first : Cells) (P : Chooses) (means : Meaning P) (m : Model) (h : Hist
       decide_cases m t (After (call.Decide t) decide_reply) (refused (call.Decide t) (λ _. refl))
       (λ now none. (S, stamped now none (decision_by m t) refl))
     where
-      unchanged : (r : Reply) → stamp_in r ≡ [] → Stamped ((call.Decide t, r) ∷ h)
+      unchanged : (r : Response) → stamp_in r ≡ [] → Stamped ((call.Decide t, r) ∷ h)
       unchanged r e =
           silent_stamped h H.stamped (call.Decide t, r) (record {
             fates = λ _ _. refl;
@@ -139,17 +139,16 @@ module _ (first : Cells) (P : Chooses) (means : Meaning P) (m : Model) (h : Hist
           }) (ap (λ cs. map (λ c. record { stamp = c; number = t }) cs ++ commits h) e)
 
       stamped : open_now m t ≡ Ok tt → none_running m t ≡ Ok tt → (d : Decision) → decision_by m t ≡ d
-          → Stamped ((call.Decide t, decision_reply d) ∷ h)
-      stamped now none decision.Open e = unchanged reply.Done refl
+          → Stamped ((call.Decide t, Ok (decision_reply d)) ∷ h)
       stamped now none (decision.Committed c) e = committed_stamped h H.stamped t c (no_stamp t now) (suiting m h L t c none e)
-      stamped now none decision.Aborted e = unchanged reply.Aborted refl
+      stamped now none decision.Aborted e = unchanged (Ok reply.Aborted) refl
 
   sound_withdraw : (t : ℕ) → After (call.Withdraw t) withdraw_reply (withdraw m t)
   sound_withdraw t =
       withdraw_cases m t (After (call.Withdraw t) withdraw_reply) (refused (call.Withdraw t) (λ _. refl))
       (λ now. (
         S,
-        silent_stamped h H.stamped (call.Withdraw t, reply.Aborted)
+        silent_stamped h H.stamped (call.Withdraw t, (Ok reply.Aborted))
             (record { fates = λ _ _. refl; sights = λ _ _. refl; puts = λ _ _. refl; stamps = λ _. refl }) refl,
       ))
 
@@ -166,7 +165,7 @@ module _ (first : Cells) (P : Chooses) (means : Meaning P) (m : Model) (h : Hist
       begin_cases m t (After (call.Begin t) done) (refused (call.Begin t) (λ _. refl))
       (λ _. (
         S,
-        silent_stamped h H.stamped (call.Begin t, reply.Done)
+        silent_stamped h H.stamped (call.Begin t, (Ok reply.Done))
             (record { fates = λ _ _. refl; sights = λ _ _. refl; puts = λ _ _. refl; stamps = λ _. refl }) refl,
       ))
   sound_step (call.Read t k) = sound_read t k
@@ -211,7 +210,7 @@ holds_new cells rooms = record {
 }
   where
     nothing : {X Q : Type 0} {x : X} → ◌≡◌ {A = Option X} None (Some x) → Q
-    nothing e = let z : ◌≡◌ {A = ℕ} 0 1 = cc in absurd (omega arith)
+    nothing e = clash cc
 
     never : (l u : ℤ) → Away ≡ Past true l u → ⊥
     never l u e = subst Unsettled e tt

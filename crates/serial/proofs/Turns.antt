@@ -136,10 +136,6 @@ module _ (first : Cells) (V W : View) (t g : ℕ) (S : Sound first V) (O : Only 
           (V.cells k) (W.cells k) (grown_same k) (V.fates t g) (V.fates u g) o);
     }
 
-  -- Nothing turns.
-  pub calm : W.fates t g ≡ V.fates t g → Sound first W
-  calm e = turned first V W t g S (lasting (λ f. f) e (λ _ _ _ _. refl) (λ _ _ _ _. refl))
-
   -- A read or prewrite at the ground was accepted.
   pub touched : W.fates t g ≡ begun (V.fates t g) → Sound first W
   touched e = turned first V W t g S (lasting begun e begun_here begun_there)

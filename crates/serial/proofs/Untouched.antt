@@ -1,46 +1,47 @@
 -- Where a transaction is away from a ground, the ledger says nothing of it at the keys there.
 --   unseen         a refused read shows nothing
 --   untouched      nothing was seen and nothing was put at a key of a ground that was never touched
-use Rattle.std.proofs.Common.{◌≡◌, ℕ, Bool, true, false, cond, ◌&&◌, eqb, [], ◌∷◌, ℤ, Some, None, Option, sym, refl, ◌∙◌, arith}
+use Rattle.std.proofs.Common.{◌≡◌, ℕ, Bool, true, false, cond, ◌&&◌, eqb, [], ◌∷◌, ℤ, Some, None, Option, sym, refl, ◌∙◌, Ok, Err}
 use Rattle.std.proofs.lemmas.Bool.{eq-eqb, true≢false}
+use Rattle.wire.proofs.Clash.{clash}
 use Rattle.wire.specs.Keys.{ground_of}
 use Rattle.register.specs.declared.call.Call.{Call}
 use Rattle.register.specs.declared.call.Call.TheVariants as call
-use Rattle.register.specs.declared.call.Reply.{Reply}
+use Rattle.register.specs.Calls.{Response}
 use Rattle.register.specs.declared.call.Reply.TheVariants as reply
 use Rattle.serial.specs.Ledger.{History, accepted, put_in, last_put}
 use Rattle.serial.proofs.Fates.{Fate, Away, Running, Past, Gone, begun, judged, settled_at, seen_or, seen_in, fate_in, fate, seen, stamp_of}
 use Rattle.serial.proofs.LinkedRows.{by_key}
 
 -- A refused read shows nothing.
-pub unseen : (o : Option (ℤ × ℕ)) (r : Reply) → accepted r ≡ false → seen_or o r ≡ o
+pub unseen : (o : Option (ℤ × ℕ)) (r : Response) → accepted r ≡ false → seen_or o r ≡ o
 unseen (Some x) r e = refl
-unseen None reply.Done e = absurd (true≢false e)
-unseen None (reply.Value v s) e = absurd (true≢false e)
-unseen None (reply.Range l u) e = absurd (true≢false e)
-unseen None (reply.Committed s) e = absurd (true≢false e)
-unseen None reply.Aborted e = absurd (true≢false e)
-unseen None (reply.Refused x) e = refl
+unseen None (Ok reply.Done) e = absurd (true≢false e)
+unseen None (Ok (reply.Value v s)) e = absurd (true≢false e)
+unseen None (Ok (reply.Range l u)) e = absurd (true≢false e)
+unseen None (Ok (reply.Committed s)) e = absurd (true≢false e)
+unseen None (Ok reply.Aborted) e = absurd (true≢false e)
+unseen None (Err x) e = refl
 
 -- A transaction that has begun at a ground is not away.
 begun_there : (f : Fate) → begun f ≡ Away → ⊥
-begun_there Away e = let z : ◌≡◌ {A = ℕ} 0 1 = cc in absurd (omega arith)
-begun_there Running e = let z : ◌≡◌ {A = ℕ} 0 1 = cc in absurd (omega arith)
-begun_there (Past b l u) e = let z : ◌≡◌ {A = ℕ} 0 1 = cc in absurd (omega arith)
-begun_there Gone e = let z : ◌≡◌ {A = ℕ} 0 1 = cc in absurd (omega arith)
+begun_there Away e = clash cc
+begun_there Running e = clash cc
+begun_there (Past b l u) e = clash cc
+begun_there Gone e = clash cc
 
 -- One that is away after a validation was before it.
-judged_away : (r : Reply) (f : Fate) → judged r f ≡ Away → f ≡ Away
-judged_away reply.Done f e = e
-judged_away (reply.Value v s) f e = e
-judged_away (reply.Range l u) f e = let z : ◌≡◌ {A = ℕ} 0 1 = cc in absurd (omega arith)
-judged_away (reply.Committed s) f e = e
-judged_away reply.Aborted f e = let z : ◌≡◌ {A = ℕ} 0 1 = cc in absurd (omega arith)
-judged_away (reply.Refused x) f e = e
+judged_away : (r : Response) (f : Fate) → judged r f ≡ Away → f ≡ Away
+judged_away (Ok reply.Done) f e = e
+judged_away (Ok (reply.Value v s)) f e = e
+judged_away (Ok (reply.Range l u)) f e = clash cc
+judged_away (Ok (reply.Committed s)) f e = e
+judged_away (Ok reply.Aborted) f e = clash cc
+judged_away (Err x) f e = e
 
 settled_there : (o : Option ℕ) → settled_at o ≡ Away → ⊥
-settled_there None e = let z : ◌≡◌ {A = ℕ} 0 1 = cc in absurd (omega arith)
-settled_there (Some c) e = let z : ◌≡◌ {A = ℕ} 0 1 = cc in absurd (omega arith)
+settled_there None e = clash cc
+settled_there (Some c) e = clash cc
 
 -- A transaction that is away after an entry that may have touched the ground was away before, and was not touched.
 away_still : (b : Bool) (f : Fate) → cond b (begun f) f ≡ Away → (b ≡ false) × (f ≡ Away)
@@ -60,7 +61,7 @@ own_test t g b = rw (eq-eqb t t refl, eq-eqb g g refl) refl
 abbrev NothingSaid : Option (ℤ × ℕ) → Option ℤ → Type 0
 NothingSaid o p = (o ≡ None) × (p ≡ None)
 
-module _ (t k : ℕ) (r : Reply) (s : Option ℕ) (f : Fate) (o : Option (ℤ × ℕ)) (p : Option ℤ) (before : f ≡ Away → NothingSaid o p) where
+module _ (t k : ℕ) (r : Response) (s : Option ℕ) (f : Fate) (o : Option (ℤ × ℕ)) (p : Option ℤ) (before : f ≡ Away → NothingSaid o p) where
   -- What one entry says, where the transaction is still away after it.
   entry : (c : Call) → fate_in t (ground_of k) c r s f ≡ Away → NothingSaid (seen_in t k c r o) (put_in t k c r p)
   entry (call.Begin u) e = before e

@@ -43,9 +43,9 @@ module _ (first : Cells) (m : Model) (h : History) (L : Linked h m) (S : Sound f
   is_running r at run = L.rows t g ∙ ap row_fate at ∙ running_shown r run
 
   pub fails : (r : Row) → row_of m.rows t g ≡ Some r → running r ≡ Ok tt
-      → Sound first (view ((call.Validate t g, reply.Aborted) ∷ h) (failed m t g r))
+      → Sound first (view ((call.Validate t g, (Ok reply.Aborted)) ∷ h) (failed m t g r))
   fails r at run =
-      gone first (view h m) (view ((call.Validate t g, reply.Aborted) ∷ h) (failed m t g r)) t g S
+      gone first (view h m) (view ((call.Validate t g, (Ok reply.Aborted)) ∷ h) (failed m t g r)) t g S
       (record {
         others = λ u j n. off_key t g u j Gone (fate h u j) n;
         seen = λ u j. refl;
@@ -101,12 +101,12 @@ module _ (first : Cells) (m : Model) (h : History) (L : Linked h m) (S : Sound f
 
   pub passes_with : (P : Chooses) → Meaning P → (r : Row) → row_of m.rows t g ≡ Some r → running r ≡ Ok tt
       → lt_z (high m t g P r) (low m t g P r) ≡ false
-      → Sound first (view ((call.Validate t g, reply.Range (chosen m t g P r).0 (chosen m t g P r).1) ∷ h) (passed m t g r (chosen m t g P r)))
+      → Sound first (view ((call.Validate t g, Ok (reply.Range (chosen m t g P r).0 (chosen m t g P r).1)) ∷ h) (passed m t g r (chosen m t g P r)))
   passes_with P means r at run room =
       let l : ℤ = (chosen m t g P r).0 in
       let u : ℤ = (chosen m t g P r).1 in
       let within = means.within (low m t g P r) (high m t g P r) _ _ (not_empty (low m t g P r) (high m t g P r) room) in
-      passes first (view h m) (view ((call.Validate t g, reply.Range l u) ∷ h) (passed m t g r (chosen m t g P r))) t g S
+      passes first (view h m) (view ((call.Validate t g, Ok (reply.Range l u)) ∷ h) (passed m t g r (chosen m t g P r))) t g S
       (record {
         others = λ a j n. off_key t g a j (Past false l u) (fate h a j) n;
         seen = λ a j. refl;
@@ -119,24 +119,24 @@ module _ (first : Cells) (m : Model) (h : History) (L : Linked h m) (S : Sound f
       not_empty l u e = grind (arith, ints)
 
   -- The fates after a settlement.
-  pub settled_own : fate ((call.Settle t g, reply.Done) ∷ h) t g ≡ settled_at (stamp_of h t)
+  pub settled_own : fate ((call.Settle t g, (Ok reply.Done)) ∷ h) t g ≡ settled_at (stamp_of h t)
   settled_own = at_key_too t g (settled_at (stamp_of h t)) (fate h t g)
 
-  pub settled_others : (u j : ℕ) → (eqb t u && eqb g j) ≡ false → fate ((call.Settle t g, reply.Done) ∷ h) u j ≡ fate h u j
+  pub settled_others : (u j : ℕ) → (eqb t u && eqb g j) ≡ false → fate ((call.Settle t g, (Ok reply.Done)) ∷ h) u j ≡ fate h u j
   settled_others u j n = off_key_too t g u j (settled_at (stamp_of h u)) (fate h u j) n
 
   pub settles_gone : (r : Row) → stamp_of h t ≡ None → Unsettled (fate h t g)
-      → Sound first (view ((call.Settle t g, reply.Done) ∷ h) (settled m t g r Abort))
+      → Sound first (view ((call.Settle t g, (Ok reply.Done)) ∷ h) (settled m t g r Abort))
   settles_gone r none still =
-      gone first (view h m) (view ((call.Settle t g, reply.Done) ∷ h) (settled m t g r Abort)) t g S
+      gone first (view h m) (view ((call.Settle t g, (Ok reply.Done)) ∷ h) (settled m t g r Abort)) t g S
       (record { others = settled_others; seen = λ u j. refl; put = λ u j. refl; notes = λ n i. i; cells = λ j. refl })
       still (settled_own ∙ ap settled_at none)
 
   pub settles_at : (r : Row) (c : Stamp) (l u : ℤ) → stamp_of h t ≡ Some c.number → fate h t g ≡ Past false l u
       → l ≤ℤ pos c.number → pos c.number ≤ℤ u
-      → Sound first (view ((call.Settle t g, reply.Done) ∷ h) (settled m t g r (Commit c)))
+      → Sound first (view ((call.Settle t g, (Ok reply.Done)) ∷ h) (settled m t g r (Commit c)))
   settles_at r c l u at was least most =
-      settles first (view h m) (view ((call.Settle t g, reply.Done) ∷ h) (settled m t g r (Commit c))) t g c.number S
+      settles first (view h m) (view ((call.Settle t g, (Ok reply.Done)) ∷ h) (settled m t g r (Commit c))) t g c.number S
       (record {
         others = settled_others;
         seen = λ a j. refl;

@@ -3,16 +3,15 @@
 --   keys_of h t        the keys of t's accepted reads and prewrites
 --   Fresh cells k      both stamps of the cell at k, if there is one, are below TOP
 --   Alone              the promise
-use Rattle.std.specs.Prelude.{◌≡◌, ℕ, ◌<◌, true, false, cond, ◌&&◌, List, [], ◌∷◌, Some, None, Option, ◌==◌}
+use Rattle.std.specs.Prelude.{◌≡◌, ℕ, ◌<◌, true, false, cond, ◌&&◌, List, [], ◌∷◌, Some, None, Option, ◌==◌, Ok}
 use Rattle.std.specs.List.{flat_map, AllByRecursion}
 use Rattle.store.specs.Stores.{Cells}
 use Rattle.store.specs.declared.cell.Cell.{Cell}
 use Rattle.wire.specs.declared.stamp.Stamp.{Stamp}
-use Rattle.register.specs.Calls.{step}
+use Rattle.register.specs.Calls.{Response, step}
 use Rattle.register.specs.Model.{Chooses, Rooms}
 use Rattle.register.specs.declared.call.Call.{Call}
 use Rattle.register.specs.declared.call.Call.TheVariants.{Begin, Read, Prewrite, Validate, Decide, Withdraw, Settle}
-use Rattle.register.specs.declared.call.Reply.{Reply}
 use Rattle.register.specs.declared.call.Reply.TheVariants.{Committed}
 use Rattle.serial.specs.Days.{Day, new_day, next, day_after, Meaning}
 use Rattle.serial.specs.Ledger.{History, accepted, pending}
@@ -32,7 +31,7 @@ caller (Withdraw t) = t
 caller (Settle t g) = t
 
 -- The key that one entry says t read or prewrote.
-abbrev pub key_in : ℕ → Call → Reply → List ℕ
+abbrev pub key_in : ℕ → Call → Response → List ℕ
 key_in t (Begin u) r = []
 key_in t (Read u k) r = cond (u == t && accepted r) (k ∷ []) []
 key_in t (Prewrite u k v) r = cond (u == t && accepted r) (k ∷ []) []
@@ -55,8 +54,8 @@ abbrev pub Fresh : Cells → ℕ → Type 0
 Fresh cells k = fresh_cell (cells k)
 
 -- A decision that commits.
-abbrev pub Commits : Reply → Type 0
-Commits r = (c : Stamp) × (r ≡ Committed c)
+abbrev pub Commits : Response → Type 0
+Commits r = (c : Stamp) × (r ≡ Ok (Committed c))
 
 -- On any day, a transaction that begins while none is pending, and makes the only calls until its decide is accepted, commits if
 -- every stamp in its cells, as its begin finds them, is below TOP.

@@ -5,18 +5,18 @@
 --   pending h t g         t touched the ground g, and has neither failed its validation there nor been settled there since
 --   owed h g              a committed transaction is pending at the ground g
 --   nothing_owed gs h     no committed transaction is pending at any of the grounds gs
-use Rattle.std.specs.Prelude.{ℕ, Bool, true, false, cond, not, ◌&&◌, ◌||◌, List, [], ◌∷◌, map, ℤ, Some, None, Option, ◌==◌}
+use Rattle.std.specs.Prelude.{ℕ, Bool, true, false, cond, not, ◌&&◌, ◌||◌, List, [], ◌∷◌, map, ℤ, Some, None, Ok, Err, Option, ◌==◌}
 use Rattle.std.specs.List.{flat_map}
 use Rattle.wire.specs.Keys.{ground_of}
 use Rattle.register.specs.Checks.{any}
 use Rattle.register.specs.declared.call.Call.{Call}
 use Rattle.register.specs.declared.call.Call.TheVariants.{Begin, Read, Prewrite, Validate, Decide, Withdraw, Settle}
-use Rattle.register.specs.declared.call.Reply.{Reply}
-use Rattle.register.specs.declared.call.Reply.TheVariants.{Done, Value, Range, Committed, Aborted, Refused}
+use Rattle.register.specs.Calls.{Response}
+use Rattle.register.specs.declared.call.Reply.TheVariants.{Done, Value, Range, Committed, Aborted}
 
--- A history: calls with their replies, the newest first.
+-- A history: calls with their responses, the newest first.
 abbrev pub History : Type 0
-History = List (Call × Reply)
+History = List (Call × Response)
 
 -- A transaction that committed, and its stamp.
 pub record Commit : Type 0 where
@@ -24,43 +24,39 @@ pub record Commit : Type 0 where
   pub number : ℕ
 
 -- The value in the reply of a read.
-abbrev pub value_in : Reply → List ℤ
-value_in Done = []
-value_in (Value v s) = v ∷ []
-value_in (Range l u) = []
-value_in (Committed s) = []
-value_in Aborted = []
-value_in (Refused r) = []
+abbrev pub value_in : Response → List ℤ
+value_in (Ok Done) = []
+value_in (Ok (Value v s)) = v ∷ []
+value_in (Ok (Range l u)) = []
+value_in (Ok (Committed s)) = []
+value_in (Ok Aborted) = []
+value_in (Err e) = []
 
 -- The stamp in the reply of a decision.
-abbrev pub stamp_in : Reply → List ℕ
-stamp_in Done = []
-stamp_in (Value v s) = []
-stamp_in (Range l u) = []
-stamp_in (Committed s) = s.number ∷ []
-stamp_in Aborted = []
-stamp_in (Refused r) = []
+abbrev pub stamp_in : Response → List ℕ
+stamp_in (Ok Done) = []
+stamp_in (Ok (Value v s)) = []
+stamp_in (Ok (Range l u)) = []
+stamp_in (Ok (Committed s)) = s.number ∷ []
+stamp_in (Ok Aborted) = []
+stamp_in (Err e) = []
 
 -- A call that was not refused.
-abbrev pub accepted : Reply → Bool
-accepted Done = true
-accepted (Value v s) = true
-accepted (Range l u) = true
-accepted (Committed s) = true
-accepted Aborted = true
-accepted (Refused r) = false
+abbrev pub accepted : Response → Bool
+accepted (Ok r) = true
+accepted (Err e) = false
 
 -- A reply that says Aborted.
-abbrev pub aborted : Reply → Bool
-aborted Done = false
-aborted (Value v s) = false
-aborted (Range l u) = false
-aborted (Committed s) = false
-aborted Aborted = true
-aborted (Refused r) = false
+abbrev pub aborted : Response → Bool
+aborted (Ok Done) = false
+aborted (Ok (Value v s)) = false
+aborted (Ok (Range l u)) = false
+aborted (Ok (Committed s)) = false
+aborted (Ok Aborted) = true
+aborted (Err e) = false
 
 -- The keys and values that one entry says t read.
-abbrev pub reads_in : ℕ → Call → Reply → List (ℕ × ℤ)
+abbrev pub reads_in : ℕ → Call → Response → List (ℕ × ℤ)
 reads_in t (Begin u) r = []
 reads_in t (Read u k) r = cond (u == t) (map (λ v. (k, v)) (value_in r)) []
 reads_in t (Prewrite u k v) r = []
@@ -74,7 +70,7 @@ abbrev pub reads_of : History → ℕ → List (ℕ × ℤ)
 reads_of h t = flat_map (λ e. reads_in t e.0 e.1) h
 
 -- The value that one entry says t put at k; else what was said before.
-abbrev pub put_in : ℕ → ℕ → Call → Reply → Option ℤ → Option ℤ
+abbrev pub put_in : ℕ → ℕ → Call → Response → Option ℤ → Option ℤ
 put_in t k (Begin u) r before = before
 put_in t k (Read u j) r before = before
 put_in t k (Prewrite u j v) r before = cond (u == t && (j == k && accepted r)) (Some v) before
@@ -89,7 +85,7 @@ last_put [] t k = None
 last_put (e ∷ h) t k = put_in t k e.0 e.1 (last_put h t k)
 
 -- Who one entry says committed.
-abbrev pub commit_in : Call → Reply → List Commit
+abbrev pub commit_in : Call → Response → List Commit
 commit_in (Begin u) r = []
 commit_in (Read u k) r = []
 commit_in (Prewrite u k v) r = []
@@ -103,7 +99,7 @@ abbrev pub commits : History → List Commit
 commits h = flat_map (λ e. commit_in e.0 e.1) h
 
 -- An accepted read or prewrite of t at the ground g.
-abbrev pub touches : ℕ → ℕ → Call → Reply → Bool
+abbrev pub touches : ℕ → ℕ → Call → Response → Bool
 touches t g (Begin u) r = false
 touches t g (Read u k) r = u == t && (ground_of k == g && accepted r)
 touches t g (Prewrite u k v) r = u == t && (ground_of k == g && accepted r)
@@ -113,7 +109,7 @@ touches t g (Withdraw u) r = false
 touches t g (Settle u j) r = false
 
 -- A validation of t at g that answered Aborted, or an accepted settlement there.
-abbrev pub finishes : ℕ → ℕ → Call → Reply → Bool
+abbrev pub finishes : ℕ → ℕ → Call → Response → Bool
 finishes t g (Begin u) r = false
 finishes t g (Read u k) r = false
 finishes t g (Prewrite u k v) r = false

@@ -6,37 +6,27 @@ ghost use Rattle.serial.specs.Promise.{Promise};
 
 // Whatever calls are made on a register that is new: committed transactions are serial in the order of (stamp, number), a
 // transaction alone commits while stamps last, and a ground's validation depends on that ground alone.
-pub fn promise_holds() -> u8
+pub fn promise_holds()
     ensures { Promise }
-{
-    0
-}
+{}
 
 // What the promise says of a day on which two transactions cross two grounds.
-pub fn promise_speaks() -> u8
+pub fn promise_speaks()
     ensures { CrossingSays }
-{
-    0
-}
+{}
 
 // A ground's validation depends on that ground alone.
-pub fn validation_is_local() -> u8
+pub fn validation_is_local()
     ensures { Local }
-{
-    0
-}
+{}
 
 // On each worked day the serial order tells every reader what it was answered.
-pub fn days_are_serial() -> u8
+pub fn days_are_serial()
     ensures days { DaysAreSerial }
     ensures later { LaterDaysAreSerial }
-{
-    0
-}
+{}
 
 // A transaction that meets nobody commits while stamps last.
-pub fn alone_commits() -> u8
+pub fn alone_commits()
     ensures { Alone }
-{
-    0
-}
+{}

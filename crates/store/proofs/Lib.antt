@@ -1,6 +1,7 @@
 pub mod Cells
 pub mod Faults
 pub mod FlatPut
-pub mod Halving
+pub mod Lines
+pub mod Naming
 pub mod Puts
 pub mod SparsePut

@@ -1,14 +1,15 @@
 -- What a cell written into line i leaves of the other lines, in either layout.
-use Rattle.std.proofs.Common.{◌≡◌, ℕ, ◌+◌, ◌-◌, ◌*◌, ◌≤◌, ◌≢◌, List, length, get_or, Some, None, Option, refl, ◌∙◌, ⊎_elim, add-zero, arith}
-use Rattle.std.proofs.lemmas.Bool.{cases_eq}
+use Rattle.std.proofs.Common.{◌≡◌, ℕ, ◌+◌, ◌-◌, ◌*◌, ◌≤◌, ◌≢◌, List, length, get_or, Some, None, Ok, Option, refl, ap, ◌∙◌, ⊎_elim, add-zero, arith}
+use mathlib.Core.Path.{fun_ext}
+use Rattle.std.proofs.lemmas.Bool.{cases_eq, eq-eqb, ne_eqb}
+use Rattle.std.specs.Option.{option_map}
 use Rattle.store.specs.declared.cell.Cell.{Cell}
 use Rattle.store.specs.declared.fault.Cause.{Cause}
 use Rattle.store.specs.declared.fault.Fault.{Fault}
-use Rattle.store.specs.declared.memory.Layout.{Layout}
-use Rattle.store.specs.declared.memory.Layout.TheVariants.{Bare, Keyed}
 use Rattle.wire.specs.Words.{key_in}
 use Rattle.store.specs.Faults.{first_fault, or_else, cause_in, of_whole}
-use Rattle.store.specs.Memory.{cell_at, cell_cause, with_cell_at, cell_index, lines_in, line_cause, shape_cause}
+use Rattle.store.specs.Memory.{Layout, Bare, Keyed, cell_at, cell_cause, with_cell_at, cell_index, lines_in, line_cause, shape_cause}
+use Rattle.store.specs.Stores.{Cells, Put}
 use Rattle.store.proofs.Cells.{three_other, length_three}
 use Rattle.store.proofs.Faults.{none_at, none_from}
 
@@ -49,11 +50,11 @@ other_key ws i x j = three_other ws (4 * i + 1) _ _ _ (4 * j) (λ z. omega arith
 
 -- The first of two causes is none exactly where both are.
 pub first_none : (a b : Option Cause) → or_else a b ≡ None → a ≡ None
-first_none (Some c) b e = let z : ◌≡◌ {A = ℕ} 0 1 = cc in absurd (omega arith)
+first_none (Some c) b e = cc
 first_none None b e = refl
 
 pub second_none : (a b : Option Cause) → or_else a b ≡ None → b ≡ None
-second_none (Some c) b e = let z : ◌≡◌ {A = ℕ} 0 1 = cc in absurd (omega arith)
+second_none (Some c) b e = cc
 second_none None b e = e
 
 -- A line that had no fault has none after a sound cell is written, be it there or elsewhere.
@@ -66,7 +67,10 @@ line_kept Keyed ws i x s j e =
     let key = first_none word _ e in
     let rest = second_none word _ e in
     let cell : cell_cause (after Keyed ws i x) (4 * j + 1) ≡ None =
-    ⊎_elim (λ (z : j ≡ i). rw z s) (λ (z : j ≡ i → ⊥). other_cause Keyed ws i x j z ∙ first_none (cell_cause ws (4 * j + 1)) _ rest) (cases_eq j i) in
+    ⊎_elim
+    (λ (z : j ≡ i). rw z s)
+    (λ (z : j ≡ i → ⊥). other_cause Keyed ws i x j z ∙ first_none (cell_cause ws (4 * j + 1)) _ rest)
+    (cases_eq j i) in
     rw (other_key ws i x j, other_key ws i x (j - 1), key, cell) (second_none (cell_cause ws (4 * j + 1)) _ rest)
 
 -- Lines without a fault stay so.
@@ -80,9 +84,32 @@ lines_kept l ws i x s e =
 
 -- Where the length of memory has no fault and nothing else is wrong, nothing is.
 pub whole_none : (o : Option Cause) (rest : Option Fault) → of_whole o rest ≡ None → (o ≡ None) × (rest ≡ None)
-whole_none (Some c) rest e = let z : ◌≡◌ {A = ℕ} 0 1 = cc in absurd (omega arith)
+whole_none (Some c) rest e = cc
 whole_none None rest e = (refl, e)
 
 -- The length of memory stays as it was.
 pub shape_kept : (l : Layout) (ws : List ℕ) (i : ℕ) (x : Cell) → shape_cause l (after l ws i x) ≡ shape_cause l ws
 shape_kept l ws i x = rw (length_after l ws i x) refl
+
+-- The cell of a key's line, if it has one.
+abbrev pub cell_by : Layout → List ℕ → Option ℕ → Option Cell
+cell_by l ws o = option_map (λ j. cell_at ws (cell_index l j)) o
+
+module _ (l : Layout) (ws : List ℕ) (i : ℕ) (x : Cell) (line : ℕ → Option ℕ) (k : ℕ) (at : line k ≡ Some i)
+    (apart_from : (q j : ℕ) → (q ≡ k → ⊥) → line q ≡ Some j → j ≡ i → ⊥) where
+  -- Keys of other lines keep their cells.
+  others_keep : (q : ℕ) → (q ≡ k → ⊥) → (o : Option ℕ) → line q ≡ o → cell_by l (after l ws i x) o ≡ cell_by l ws o
+  others_keep q n None e = refl
+  others_keep q n (Some j) e = ap Some (other_cell l ws i x j (apart_from q j n e))
+
+  -- Where each key has the cell of its line, before and after, a cell written into the line of a key is put at that key.
+  pub put_by_line : (m n : Cells) → ((q : ℕ) → m q ≡ cell_by l ws (line q))
+      → ((q : ℕ) → n q ≡ cell_by l (after l ws i x) (line q))
+      → cell_at (after l ws i x) (cell_index l i) ≡ x → Put m n k x (Ok tt)
+  put_by_line m n before left here = record {
+    answers = rw (before k, at) refl;
+    leaves = rw (before k, at) (fun_ext (λ q. left q ∙ ⊎_elim
+        (λ (e : q ≡ k). rw (e, eq-eqb k k refl, at) (ap Some here))
+        (λ (d : q ≡ k → ⊥). rw (ne_eqb q k d, before q) (others_keep q d (line q) refl))
+        (cases_eq q k)));
+  }

@@ -1,25 +1,28 @@
--- What a sparse store means, and putting a cell into one.
-use Rattle.std.proofs.Common.{◌≡◌, ℕ, zero, suc, ◌+◌, ◌-◌, ◌*◌, ◌<◌, Bool, true, false, cond, not, eqb, ltb, List, get_or, is_some, Some, None, Ok, Option, sym, refl, ap, ◌∙◌, ⊎_elim, sub-one, arith}
-use mathlib.Core.Path.{fun_ext}
-use Rattle.std.proofs.lemmas.Bool.{cases_eq, eq-eqb, eqb-true, ltb-true, ne_eqb, or_cases, true≢false}
+-- What a sparse store finds, and putting a cell into one.
+use Rattle.std.proofs.Common.{◌≡◌, ℕ, zero, suc, ◌+◌, ◌-◌, ◌*◌, ◌/◌, ◌<◌, Bool, true, false, cond, not, eqb, ltb, List, length, get_or, is_some, Result, Some, None, Ok, Option, sym, refl, ap, ◌∙◌, ⊎_elim, sub-one, arith}
+use Rattle.std.proofs.lemmas.Bool.{cases_eq, eqb-true, ltb-true, or_cases}
+use Rattle.std.specs.List.Sorted.{IsBinarySearchResult, IsSearchInRange}
 use Rattle.std.specs.Option.{option_map}
+use Rattle.std.specs.Ordering.{nat_cmp}
+use Rattle.std.specs.Result.{result_ok}
+use Rattle.std.specs.Simd.{first_chunks}
 use Rattle.wire.specs.Words.{key_in, low_of}
 use Rattle.store.specs.declared.cell.Cell.{Cell}
 use Rattle.store.specs.declared.fault.Cause.TheVariants.{KeysNotRising}
 use Rattle.store.specs.declared.fault.Fault.{Fault}
-use Rattle.store.specs.declared.memory.Layout.TheVariants.{Keyed}
 use Rattle.store.specs.Faults.{cause_in, or_else}
-use Rattle.store.specs.Memory.{cell_at, cell_cause, line_key, line_cause, lines_in, rising_cause, shape_cause}
-use Rattle.store.specs.Sparses.{found_cells, found_line, line_cell, line_naming, sought, sparse_fault, sparse_means}
+use Rattle.store.specs.Memory.{Keyed, cell_at, cell_cause, line_key, line_cause, lines_in, rising_cause, shape_cause}
+use Rattle.store.specs.Sparses.{line_cell, line_naming, named_line, sparse_fault, sparse_means}
 use Rattle.store.specs.Stores.{Put}
-use Rattle.store.proofs.Faults.{none_at}
-use Rattle.store.proofs.Halving.{found_by_keys, found_has, found_naming}
-use Rattle.store.proofs.Puts.{after, length_after, lines_kept, other_cell, other_key, second_none, shape_kept, whole_none}
+use Rattle.store.proofs.Faults.{none_at, unsome}
+use Rattle.store.proofs.Lines.{cell_line, chunk_at}
+use Rattle.store.proofs.Naming.{key_of, named_has, naming_by_keys, searched}
+use Rattle.store.proofs.Puts.{after, cell_by, length_after, lines_kept, other_key, put_by_line, second_none, shape_kept, whole_none}
 
 -- A key that rises.
 no_cause : (b : Bool) → cond b None (Some KeysNotRising) ≡ None → b ≡ true
 no_cause true e = refl
-no_cause false e = let z : ◌≡◌ {A = ℕ} 0 1 = cc in absurd (omega arith)
+no_cause false e = cc
 
 module _ (ws : List ℕ) (good : sparse_fault ws ≡ None) where
   -- A line of memory without a fault has a larger key than the line before.
@@ -45,60 +48,61 @@ module _ (ws : List ℕ) (good : sparse_fault ws ≡ None) where
       (λ (z : i ≡ j → ⊥). let before = rises i j (omega arith) (omega arith) in omega arith)
       (cases_eq i j)
 
-  -- Halving finds the line that names a key.
-  pub sought_naming : (k : ℕ) → sought ws k ≡ line_naming ws (lines_in Keyed ws) k
-  sought_naming k =
-      found_naming ws k (lines_in Keyed ws) rises (lines_in Keyed ws) 0 (lines_in Keyed ws) (omega arith) (omega arith)
-      (λ j l. absurd (omega arith)) (λ j l h. absurd (omega arith))
+  -- Memory without a fault means the cells of the lines that name keys.
+  means_good : (q : ℕ) → sparse_means ws q ≡ option_map (line_cell ws) (line_naming ws (lines_in Keyed ws) q)
+  means_good q = rw good refl
 
--- What is not some is none.
-unsome : (o : Option Fault) → is_some o ≡ false → o ≡ None
-unsome (Some f) e = absurd (true≢false e)
-unsome None e = refl
+-- A binary search of memory without a fault finds the line that names the key.
+pub search_finds : (ws : List ℕ) (k : ℕ) (ls : List (List ℕ)) → true ≡ not (is_some (sparse_fault ws))
+    → ls ≡ first_chunks 4 (length ws / 4) ws → length ls ≡ length ws / 4
+    → (r : Result ℕ ℕ) → IsSearchInRange r (length ls) → IsBinarySearchResult (λ x. nat_cmp (key_of x) k) ls r
+    → result_ok r ≡ named_line ws k
+search_finds ws k ls good e n r within found =
+    let none = unsome (sparse_fault ws) good in
+    searched ws (lines_in Keyed ws) k (rises ws none) ls e n r within found ∙ rw none refl
 
--- The store that is made of memory has the cells that the memory means.
-pub made_means : (ws : List ℕ) (good : Bool) → is_some (sparse_fault ws) ≡ not good → found_cells good ws ≡ sparse_means ws
-made_means ws true e =
-    fun_ext (λ k. let none = unsome (sparse_fault ws) e in rw e (ap (option_map (line_cell ws)) (sought_naming ws none k)))
-made_means ws false e = fun_ext (λ k. rw e refl)
+-- A key that has a line is a key of memory without a fault.
+line_in_good : (o : Option Fault) (p : Option ℕ) (i : ℕ) → Some i ≡ cond (not (is_some o)) p None → (o ≡ None) × (p ≡ Some i)
+line_in_good (Some f) p i e = cc
+line_in_good None p i e = (refl, sym e)
 
--- A key's line has that key.
-line_has : (good : Bool) (ws : List ℕ) (k i : ℕ) → found_line good ws k ≡ Some i → line_key ws i ≡ k
-line_has true ws k i e = found_has ws k (lines_in Keyed ws) 0 (lines_in Keyed ws) i e
-line_has false ws k i e = let z : ◌≡◌ {A = ℕ} 0 1 = cc in absurd (omega arith)
+module _ (ws : List ℕ) (k i : ℕ) (at : Some i ≡ named_line ws k) where
+  good : sparse_fault ws ≡ None
+  good = (line_in_good (sparse_fault ws) _ i at).0
 
-module _ (good : Bool) (ws : List ℕ) (k i : ℕ) (x : Cell) (at : found_line good ws k ≡ Some i) where
-  -- Every key keeps its line.
-  line_same : (q : ℕ) → found_line good (after Keyed ws i x) q ≡ found_line good ws q
-  line_same q =
-      rw (length_after Keyed ws i x)
-      (ap (λ o. cond good o None) (found_by_keys ws (after Keyed ws i x) q (lines_in Keyed ws) 0 (lines_in Keyed ws)
-      (λ j. ap low_of (other_key ws i x j))))
+  named : line_naming ws (lines_in Keyed ws) k ≡ Some i
+  named = (line_in_good (sparse_fault ws) _ i at).1
 
-  -- Different keys have different lines.
-  other_line : (q j : ℕ) → (q ≡ k → ⊥) → found_line good ws q ≡ Some j → j ≡ i → ⊥
-  other_line q j n e z =
-      n (sym (line_has good ws q j e) ∙ ap (line_key ws) z ∙ line_has good ws k i at)
+  -- The cell of a key's line is the key's.
+  pub fetch_finds : (ls : List (List ℕ)) (d : List ℕ) → ls ≡ first_chunks 4 (length ws / 4) ws → i < length ws / 4
+      → Some (cell_at (get_or ls i d) 1) ≡ sparse_means ws k
+  fetch_finds ls d e h =
+      let line = ap (λ xs. cell_at (get_or xs i d) 1) e
+      ∙ (ap (λ x. cell_at x 1) (chunk_at 4 (length ws / 4) i ws d h) ∙ cell_line 4 ws i 1 (omega arith)) in
+      ap Some line ∙ sym (means_good ws good k ∙ ap (option_map (line_cell ws)) named)
 
-  -- Other keys keep their cells.
-  kept : (q : ℕ) → (q ≡ k → ⊥) → (o : Option ℕ) → found_line good ws q ≡ o
-      → option_map (line_cell (after Keyed ws i x)) o ≡ option_map (line_cell ws) o
-  kept q n None e = refl
-  kept q n (Some j) e = ap Some (other_cell Keyed ws i x j (other_line q j n e))
+  module _ (x : Cell) (sound : cell_cause (after Keyed ws i x) (4 * i + 1) ≡ None)
+      (vs : List ℕ) (is : vs ≡ after Keyed ws i x) where
+    -- Memory without a fault stays so.
+    still_good : sparse_fault (after Keyed ws i x) ≡ None
+    still_good =
+        let w = whole_none (shape_cause Keyed ws) _ good in
+        rw (shape_kept Keyed ws i x, w.0) (lines_kept Keyed ws i x sound w.1)
 
-  pub sparse_put : cell_at (after Keyed ws i x) (4 * i + 1) ≡ x
-      → Put (found_cells good ws) (found_cells good (after Keyed ws i x)) k x (Ok tt)
-  sparse_put here = record {
-    answers = rw at refl;
-    leaves = rw at (fun_ext (λ q. ap (option_map (line_cell (after Keyed ws i x))) (line_same q) ∙ ⊎_elim
-        (λ (e : q ≡ k). rw (e, eq-eqb k k refl, at) (ap Some here))
-        (λ (n : q ≡ k → ⊥). rw (ne_eqb q k n) (kept q n (found_line good ws q) refl))
-        (cases_eq q k)));
-  }
+    -- What the flag says stays so.
+    pub flag_kept : (flag : Bool) → flag ≡ not (is_some (sparse_fault ws)) → flag ≡ not (is_some (sparse_fault vs))
+    flag_kept flag e = rw (is, still_good) (e ∙ ap (λ o. not (is_some o)) good)
 
--- Memory without a fault stays so.
-pub sparse_kept : (ws : List ℕ) (i : ℕ) (x : Cell) → cell_cause (after Keyed ws i x) (4 * i + 1) ≡ None
-    → sparse_fault ws ≡ None → sparse_fault (after Keyed ws i x) ≡ None
-sparse_kept ws i x s e =
-    let w = whole_none (shape_cause Keyed ws) _ e in
-    rw (shape_kept Keyed ws i x, w.0) (lines_kept Keyed ws i x s w.1)
+    -- Every key keeps its line.
+    line_same : (q : ℕ) → line_naming (after Keyed ws i x) (lines_in Keyed (after Keyed ws i x)) q
+        ≡ line_naming ws (lines_in Keyed ws) q
+    line_same q =
+        rw (length_after Keyed ws i x)
+        (naming_by_keys ws (after Keyed ws i x) (lines_in Keyed ws) q (λ j. ap low_of (other_key ws i x j)))
+
+    pub sparse_put : cell_at (after Keyed ws i x) (4 * i + 1) ≡ x → Put (sparse_means ws) (sparse_means vs) k x (Ok tt)
+    sparse_put here =
+        rw is (put_by_line Keyed ws i x (line_naming ws (lines_in Keyed ws)) k named
+        (λ q j n e z. n (sym (named_has ws _ q j e) ∙ (ap (line_key ws) z ∙ named_has ws _ k i named)))
+        (sparse_means ws) (sparse_means (after Keyed ws i x)) (means_good ws good)
+        (λ q. means_good (after Keyed ws i x) still_good q ∙ ap (cell_by Keyed (after Keyed ws i x)) (line_same q)) here)

@@ -1,6 +1,9 @@
 pub mod Faults
+pub mod FlatStores
 pub mod Flats
+pub mod Lines
 pub mod Memory
+pub mod SparseStores
 pub mod Sparses
 pub mod Splits
 pub mod Stores

@@ -12,9 +12,12 @@ use Rattle.wire.specs.Words.{low_of, key_in, value_in, stamp_in, value_word, sta
 use Rattle.store.specs.declared.cell.Cell.{Cell}
 use Rattle.store.specs.declared.fault.Cause.{Cause}
 use Rattle.store.specs.declared.fault.Cause.TheVariants.{PartLine, TooMany, KeysNotRising}
-use Rattle.store.specs.declared.memory.Layout.{Layout}
-use Rattle.store.specs.declared.memory.Layout.TheVariants.{Bare, Keyed}
 use Rattle.store.specs.Faults.{cause_in, or_else}
+
+-- How lines lie in memory: three words a cell, or four words with the key first.
+pub data Layout : Type 0 where
+  Bare : Layout
+  Keyed : Layout
 
 -- The cell in a value word, a write stamp word and a read stamp word.
 abbrev pub cell_in : ℕ → ℕ → ℕ → Cell
@@ -66,11 +69,18 @@ rising_cause ws i = cond (i == 0 || nat_lt (line_key ws (i - 1)) (line_key ws i)
 -- What is wrong with line i: its words in their order, and then that its key does not rise.
 abbrev pub line_cause : Layout → List ℕ → ℕ → Option Cause
 line_cause Bare ws i = cell_cause ws (cell_index Bare i)
-line_cause Keyed ws i = or_else (cause_in (key_in (slice_index ws (4 * i)))) (or_else (cell_cause ws (cell_index Keyed i)) (rising_cause ws i))
+line_cause Keyed ws i =
+    or_else (cause_in (key_in (slice_index ws (4 * i))))
+    (or_else (cell_cause ws (cell_index Keyed i)) (rising_cause ws i))
 
--- What is wrong with the length of memory: part of a line is left over, or there are too many lines.
-abbrev pub shape_cause : Layout → List ℕ → Option Cause
-shape_cause l ws =
-    cond (length ws % width l == 0)
-    (cond (nat_le (lines_in l ws) (most l)) None (Some TooMany))
+-- What is wrong with memory of n lines and r words more, where there are m lines at most: part of a line is left over, or there are
+-- too many lines.
+abbrev pub shape_of : ℕ → ℕ → ℕ → Option Cause
+shape_of m n r =
+    cond (r == 0)
+    (cond (nat_le n m) None (Some TooMany))
     (Some PartLine)
+
+-- What is wrong with the length of memory.
+abbrev pub shape_cause : Layout → List ℕ → Option Cause
+shape_cause l ws = shape_of (most l) (lines_in l ws) (length ws % width l)

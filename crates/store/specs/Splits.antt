@@ -3,7 +3,8 @@
 --   split_fault b       the fault of a boundary above 8
 --   cells_of f g s      the cells of a split store
 --   OneSide m n k x r o p   put changed one of the two stores alone
-use Rattle.std.specs.Prelude.{◌≡◌, ℕ, Bool, cond, List, ◌++◌, Some, None, Option, Result, nat_le, nat_lt}
+--   Sides f g s t k x r     put changed the store on the key's side alone
+use Rattle.std.specs.Prelude.{◌≡◌, ℕ, Bool, cond, MatchBool, List, ◌++◌, Some, None, Option, Result, nat_le, nat_lt}
 use Rattle.wire.specs.declared.refusal.Refusal.{Refusal}
 use Rattle.wire.specs.Keys.{ground_of}
 use Rattle.store.specs.declared.cell.Cell.{Cell}
@@ -40,3 +41,10 @@ both_lent f g s = f s.left ++ g s.right
 pub record OneSide {S : Type 0} (m n : Cells) (k : ℕ) (x : Cell) (r : Result Unit Refusal) (o p : S) : Type 0 where
   pub put : Put m n k x r
   pub other : p ≡ o
+
+-- Putting x at k turned the store s into t and answered r: on the key's side it was put, and the other side did not change.
+abbrev pub Sides : {L R : Type 0} → (L → Cells) → (R → Cells) → Split L R → Split L R → ℕ → Cell → Result Unit Refusal → Type 0
+Sides f g s t k x r =
+    MatchBool (goes_left s k)
+    (OneSide (f s.left) (f t.left) k x r s.right t.right)
+    (OneSide (g s.right) (g t.right) k x r s.left t.left)

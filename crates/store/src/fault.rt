@@ -1,9 +1,10 @@
 ghost use Rattle.std.specs.Prelude.{◌≡◌, Some};
 ghost use Rattle.wire.specs.declared.refusal.Refusal.TheVariants.{BadStore};
-ghost use Rattle.store.specs.Faults.{cause_text};
+ghost use Rattle.store.specs.Faults.{cause_text, cause_of, fault_text, whole};
 
 use std::fmt;
 use wire::refusal::Refusal;
+use wire::word::WordFault;
 
 // Why no store can be made of some memory.
 #[derive(Clone, Copy, PartialEq, Eq, Debug)]
@@ -49,11 +50,45 @@ impl fmt::Display for Cause {
     }
 }
 
-impl Fault {
-    // The refusal of every fault.
-    pub fn refusal(self) -> Refusal
-        ensures { result ≡ BadStore }
-    {
+// What is wrong with a word is wrong with its store.
+impl From<WordFault> for Cause {
+    ghost from_gives = { λ f c. c ≡ cause_of f };
+
+    fn from(fault: WordFault) -> Cause {
+        match fault {
+            WordFault::WrongKind => Cause::WrongKind,
+            WordFault::StrayBits => Cause::StrayBits,
+        }
+    }
+}
+
+// A cause that lies in no one line.
+impl From<Cause> for Fault {
+    ghost from_gives = { λ c f. f ≡ whole c };
+
+    fn from(cause: Cause) -> Fault {
+        Fault { cause, line: None }
+    }
+}
+
+// Every fault is refused alike.
+impl From<Fault> for Refusal {
+    ghost from_gives = { λ f r. r ≡ BadStore };
+
+    fn from(_fault: Fault) -> Refusal {
         Refusal::BadStore
+    }
+}
+
+// The cause, and the line's number where it lies in one line.
+impl fmt::Display for Fault {
+    ghost output = { λ f. Some (fault_text f) };
+
+    fn fmt<W: fmt::Write>(&self, f: &mut fmt::Formatter<W>) -> fmt::Result {
+        let cause = self.cause;
+        match self.line {
+            Some(line) => write!(f, "{cause}, line {line} (the first is 0)"),
+            None => write!(f, "{cause}"),
+        }
     }
 }

@@ -1,144 +1,108 @@
-ghost use Rattle.std.specs.Prelude.{◌≡◌, ◌+◌, ◌<◌, length, None};
-ghost use Rattle.store.specs.Memory.{width, most, shape_cause, lines_in, line_cause, cell_cause, cell_at, with_cell_at};
-ghost use Rattle.store.specs.Faults.{cause_of, first_fault};
+ghost use Rattle.std.specs.Prelude.{◌≡◌, ℕ, ◌+◌, ◌<◌, List, Option, length, None};
+ghost use Rattle.store.specs.declared.fault.Cause.{Cause};
+ghost use Rattle.store.specs.Faults.{checked};
+ghost use Rattle.store.specs.Memory.{Bare, Keyed, cell_at, cell_cause, most, shape_of, with_cell_at};
+ghost use Rattle.store.specs.Lines.{bare_cause, keyed_cause, first_of};
 
 use crate::cell::Cell;
 use crate::fault::{Cause, Fault};
-use wire::stamp::Stamp;
-use wire::value::value_of;
-use wire::word::{StampKind, WordFault, key_in, stamp_in, stamp_word, value_in, value_word};
+use wire::word::{StampKind, key_in, stamp_in, value_in};
 
 pub mod flat;
 pub mod sparse;
 
-// How lines lie in memory: three words a cell, or four words with the key first.
-#[derive(Clone, Copy)]
-pub enum Layout {
-    Bare,
-    Keyed,
-}
-
-impl Layout {
-    // The words of a line.
-    fn width(self) -> usize
-        ensures value { result ≡ width self }
-        ensures some { 0 < result }
-    {
-        match self {
-            Layout::Bare => 3,
-            Layout::Keyed => 4,
-        }
-    }
+// A line of a store, as an array of its words.
+trait Line: Copy {
+    // What is wrong first with a line that comes after another, if any.
+    ghost cause: { Option Self → Self → Option Cause };
 
     // The most lines of a store.
-    fn most(self) -> usize
-        ensures { result ≡ most self }
+    ghost MOST: { ℕ };
+
+    const MOST: usize;
+
+    // Answers what is wrong first.
+    fn check(self, before: Option<Self>) -> Result<(), Cause>
+        ensures { result ≡ checked (cause before self) };
+}
+
+// Three words are a cell alone.
+impl Line for [u32; 3] {
+    ghost cause = { bare_cause };
+
+    ghost MOST = { most Bare };
+
+    const MOST: usize = 8192;
+
+    fn check(self, _before: Option<Self>) -> Result<(), Cause>
+        ensures { result ≡ checked (bare_cause _before self) }
     {
-        match self {
-            Layout::Bare => 8192,
-            Layout::Keyed => 4096,
+        let [value, write, read] = self;
+        value_in(value)?;
+        stamp_in(StampKind::Write, write)?;
+        stamp_in(StampKind::Read, read)?;
+        Ok(())
+    }
+}
+
+// Four words are a key and its cell, and keys rise.
+impl Line for [u32; 4] {
+    ghost cause = { keyed_cause };
+
+    ghost MOST = { most Keyed };
+
+    const MOST: usize = 4096;
+
+    fn check(self, before: Option<Self>) -> Result<(), Cause>
+        ensures { result ≡ checked (keyed_cause before self) }
+    {
+        let [key, value, write, read] = self;
+        key_in(key)?;
+        [value, write, read].check(None)?;
+        if let Some(last) = before
+            && key % 65536 <= last[0] % 65536
+        {
+            return Err(Cause::KeysNotRising);
         }
+        Ok(())
     }
 }
 
-// What is wrong with a word, as a store's fault.
-fn cause_of(fault: WordFault) -> Cause
-    ensures { result ≡ cause_of fault }
+// What is wrong with the length of memory that has these lines, and a rest that is none.
+fn check_shape<L: Line>(lines: &[L], rest: &[u32]) -> Result<(), Cause>
+    ensures { result ≡ checked (shape_of L.MOST (length lines.now) (length rest.now)) }
 {
-    match fault {
-        WordFault::WrongKind => Cause::WrongKind,
-        WordFault::StrayBits => Cause::StrayBits,
+    if !rest.is_empty() {
+        Err(Cause::PartLine)
+    } else if lines.len() > L::MOST {
+        Err(Cause::TooMany)
+    } else {
+        Ok(())
     }
 }
 
-// The cell in the three words at an index.
-fn cell_at(words: &[u32], at: usize) -> Cell
-    requires { at + 2 < length words.now }
-    ensures { result ≡ cell_at words.now at }
+// The first fault of the lines.
+fn check_lines<L: Line>(lines: &[L]) -> Result<(), Fault>
+    ensures { result ≡ checked (first_of L.cause 0 None lines.now) }
 {
-    Cell {
-        value: value_of((words[at] % 65536) as u16),
-        write: Stamp::in_word(words[at + 1]),
-        read: Stamp::in_word(words[at + 2]),
+    let mut before = None;
+    for (i, line) in lines.iter().enumerate() {
+        line.check(before).map_err(|cause| Fault {
+            cause,
+            line: Some(i),
+        })?;
+        before = Some(*line);
     }
+    Ok(())
 }
 
-// Writes a cell into the three words at an index.
+// Writes a cell over the three words from an index on.
+// By an index, since of memory that is written through its lines as arrays no more is known afterwards than its length.
 fn put_cell(words: &mut [u32], at: usize, cell: Cell)
     requires { at + 2 < length words.old }
     ensures words { words.new ≡ with_cell_at words.old at cell }
     ensures cell { cell_at words.new at ≡ cell }
     ensures sound { cell_cause words.new at ≡ None }
 {
-    words[at] = value_word(cell.value);
-    words[at + 1] = stamp_word(StampKind::Write, cell.write);
-    words[at + 2] = stamp_word(StampKind::Read, cell.read);
-}
-
-// What is wrong with the three words of a cell.
-fn cell_cause(words: &[u32], at: usize) -> Option<Cause>
-    requires { at + 2 < length words.now }
-    ensures { result ≡ cell_cause words.now at }
-{
-    if let Err(fault) = value_in(words[at]) {
-        return Some(cause_of(fault));
-    }
-    if let Err(fault) = stamp_in(StampKind::Write, words[at + 1]) {
-        return Some(cause_of(fault));
-    }
-    match stamp_in(StampKind::Read, words[at + 2]) {
-        Err(fault) => Some(cause_of(fault)),
-        Ok(_) => None,
-    }
-}
-
-// What is wrong with line i: its words in their order, then that its key does not rise over that of the line before.
-fn line_cause(layout: Layout, words: &[u32], i: usize) -> Option<Cause>
-    requires { i < lines_in layout words.now }
-    ensures { result ≡ line_cause layout words.now i }
-{
-    match layout {
-        Layout::Bare => cell_cause(words, 3 * i),
-        Layout::Keyed => {
-            if let Err(fault) = key_in(words[4 * i]) {
-                return Some(cause_of(fault));
-            }
-            if let Some(cause) = cell_cause(words, 4 * i + 1) {
-                return Some(cause);
-            }
-            if i > 0 && words[4 * i] % 65536 <= words[4 * (i - 1)] % 65536 {
-                return Some(Cause::KeysNotRising);
-            }
-            None
-        }
-    }
-}
-
-// What is wrong with the length of memory.
-fn shape_cause(layout: Layout, words: &[u32]) -> Option<Cause>
-    ensures { result ≡ shape_cause layout words.now }
-{
-    let width = layout.width();
-    if words.len() % width != 0 {
-        Some(Cause::PartLine)
-    } else if words.len() / width > layout.most() {
-        Some(Cause::TooMany)
-    } else {
-        None
-    }
-}
-
-// The first fault of the lines.
-fn lines_fault(layout: Layout, words: &[u32]) -> Option<Fault>
-    ensures { result ≡ first_fault (line_cause layout words.now) 0 (lines_in layout words.now) }
-{
-    for i in 0..words.len() / layout.width() {
-        if let Some(cause) = line_cause(layout, words, i) {
-            return Some(Fault {
-                cause,
-                line: Some(i),
-            });
-        }
-    }
-    None
+    words[at..at + 3].copy_from_slice(&cell.words());
 }

@@ -1,6 +1,7 @@
-ghost use Rattle.std.specs.Prelude.{◌≡◌, MatchBool};
+ghost use Rattle.std.specs.Prelude.{◌≡◌};
+ghost use Rattle.store.specs.Faults.{checked};
 ghost use Rattle.store.specs.Stores.{Put, Refuses};
-ghost use Rattle.store.specs.Splits.{split_fault, goes_left, cells_of, both_sound, both_lent, OneSide};
+ghost use Rattle.store.specs.Splits.{split_fault, goes_left, cells_of, both_sound, both_lent, Sides};
 
 use crate::cell::Cell;
 use crate::fault::{Cause, Fault};
@@ -15,18 +16,14 @@ pub struct Split<L, R> {
     right: R,
 }
 
-// The fault of a boundary above 8, or nothing.
-pub fn split_fault(boundary: u16) -> Option<Fault>
-    ensures { result ≡ split_fault boundary }
+// A boundary lies from 0 to 8, or that it does not is its fault.
+pub fn check_boundary(boundary: u16) -> Result<(), Fault>
+    ensures { result ≡ checked (split_fault boundary) }
 {
     if boundary > 8 {
-        Some(Fault {
-            cause: Cause::BoundaryAbove8,
-            line: None,
-        })
-    } else {
-        None
+        return Err(Cause::BoundaryAbove8.into());
     }
+    Ok(())
 }
 
 impl<L, R> Split<L, R> {
@@ -73,7 +70,7 @@ impl<L: Store, R: Store> Store for Split<L, R> {
         ensures sound { both_sound L.Store.sound R.Store.sound self.old → both_sound L.Store.sound R.Store.sound self.new }
         ensures lent { both_lent L.Store.lent R.Store.lent self.new ≡ both_lent L.Store.lent R.Store.lent self.old }
         ensures boundary { self.new.boundary ≡ self.old.boundary }
-        ensures sides { MatchBool (goes_left self.old key) (OneSide (L.Store.cells self.old.left) (L.Store.cells self.new.left) key cell result self.old.right self.new.right) (OneSide (R.Store.cells self.old.right) (R.Store.cells self.new.right) key cell result self.old.left self.new.left) }
+        ensures sides { Sides L.Store.cells R.Store.cells self.old self.new key cell result }
     {
         if self.goes_left(key) {
             self.left.put(key, cell)

@@ -1,3 +1,4 @@
 pub mod Images
 pub mod Offsets
 pub mod Plots
+pub mod Texts

@@ -1,7 +1,7 @@
 -- What a store holds of a plot.
 --   field_value m g n f   the value at ground g, plot n and field f in the cells m, or nothing
 --   plot_in m g n         the four of them
-use Rattle.std.specs.Prelude.{ℕ, ◌+◌, cond, ◌&&◌, ℤ, is_some, None, Option, nat_lt}
+use Rattle.std.specs.Prelude.{ℕ, [], ◌∷◌, count_by, cond, ◌&&◌, ℤ, is_some, None, Option, nat_lt}
 use Rattle.std.specs.Option.{option_map}
 use Rattle.wire.specs.declared.place.Field.{Field}
 use Rattle.wire.specs.declared.place.Field.TheVariants.{East, North, Holder, Status}
@@ -23,10 +23,6 @@ plot_in m g n = record {
   status = field_value m g n Status;
 }
 
--- One where there is a value, else none.
-abbrev pub one : Option ℤ → ℕ
-one o = cond (is_some o) 1 0
-
 -- How many fields there are.
 abbrev pub fields_of : Plot → ℕ
-fields_of p = one p.east + one p.north + one p.holder + one p.status
+fields_of p = count_by is_some (p.east ∷ p.north ∷ p.holder ∷ p.status ∷ [])

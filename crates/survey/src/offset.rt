@@ -1,6 +1,10 @@
-ghost use Rattle.std.specs.Prelude.{◌≡◌};
+ghost use Rattle.std.specs.Prelude.{◌≡◌, Some};
 ghost use Rattle.survey.specs.declared.offset.Direction.TheVariants.{East, West, North, South};
+ghost use Rattle.std.specs.Fmt.{styled_text};
 ghost use Rattle.survey.specs.Offsets.{told, value_told, name_of};
+ghost use Rattle.survey.specs.Texts.{offset_text};
+
+use std::fmt;
 
 // Where a grave lies from the chapel door, along one of two lines.
 #[derive(Clone, Copy, PartialEq, Eq, Debug)]
@@ -32,6 +36,7 @@ fn tell(value: i16, ahead: Direction, behind: Direction) -> Offset
     }
 }
 
+// Both stay beside tell, by which they are one line each: a listing maps each field by a name, and an axis type would add a word.
 impl Offset {
     // What a value of the field east says: east, or west where it is negative.
     pub fn east(value: i16) -> Offset
@@ -61,5 +66,28 @@ impl Direction {
             Direction::North => "north",
             Direction::South => "south",
         }
+    }
+}
+
+// The word, in any column that is asked for.
+impl fmt::Display for Direction {
+    ghost output = { λ d. Some (name_of d) };
+
+    ghost styled_output = { λ d s. Some (styled_text s (name_of d)) };
+
+    fn fmt<W: fmt::Write>(&self, f: &mut fmt::Formatter<W>) -> fmt::Result {
+        f.pad(self.name())
+    }
+}
+
+// As it is said aloud, in fourteen places.
+impl fmt::Display for Offset {
+    ghost output = { λ o. Some (offset_text o) };
+
+    fn fmt<W: fmt::Write>(&self, f: &mut fmt::Formatter<W>) -> fmt::Result {
+        let metres = self.metres;
+        let decimetres = self.decimetres;
+        let direction = self.direction;
+        write!(f, "{metres:>4}.{decimetres} m {direction:<5}")
     }
 }

@@ -17,13 +17,8 @@ pub struct Plot {
 fn field_value<S: Store>(store: &S, ground: u16, plot: u16, field: Field) -> Option<i16>
     ensures { result ≡ field_value (S.Store.cells store.now) ground plot field }
 {
-    let Some(place) = Place::new(ground, plot, field) else {
-        return None;
-    };
-    match store.fetch(place.key()) {
-        Some(cell) => Some(cell.value),
-        None => None,
-    }
+    let place = Place::new(ground, plot, field)?;
+    store.fetch(u16::from(place)).map(|cell| cell.value)
 }
 
 impl Plot {
@@ -43,9 +38,9 @@ impl Plot {
     pub fn fields(&self) -> usize
         ensures { result ≡ fields_of self.now }
     {
-        self.east.is_some() as usize
-            + self.north.is_some() as usize
-            + self.holder.is_some() as usize
-            + self.status.is_some() as usize
+        [self.east, self.north, self.holder, self.status]
+            .iter()
+            .filter(|value| value.is_some())
+            .count()
     }
 }

@@ -1,3 +1,4 @@
-pub mod Messages
+pub mod Chunks
+pub mod Clash
 pub mod Stamps
 pub mod Written

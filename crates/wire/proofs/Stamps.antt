@@ -5,6 +5,7 @@ use Rattle.std.proofs.lemmas.Nat.{div-mul-add, mod-mul-add}
 use Rattle.std.proofs.lemmas.Bool.{cond-true, eq-eqb}
 use Rattle.wire.specs.declared.stamp.Stamp.{Stamp}
 use Rattle.wire.specs.declared.word.StampKind.{StampKind}
+use Rattle.wire.specs.Kinds.{kind_number}
 use Rattle.wire.specs.Stamps.{stamp}
 use Rattle.wire.specs.Words.{stamp_in, stamp_kind, stamp_word}
 
@@ -23,5 +24,5 @@ stamp_is n a e = same_stamp a (stamp n) (let h = a.within in omega arith)
 pub stamp_back : (k : StampKind) (a : Stamp) → stamp_in k (stamp_word k a) ≡ Ok a
 stamp_back k a =
     let h : a.number < 268435456 = let w = a.within in omega arith in
-    cond-true _ _ _ (eq-eqb _ _ (div-mul-add (stamp_kind k) 268435456 a.number h))
-    ∙ ap Ok (sym (stamp_is _ a (sym (mod-mul-add (stamp_kind k) 268435456 a.number h))))
+    cond-true _ _ _ (eq-eqb _ _ (div-mul-add (kind_number (stamp_kind k)) 268435456 a.number h))
+    ∙ ap Ok (sym (stamp_is _ a (sym (mod-mul-add (kind_number (stamp_kind k)) 268435456 a.number h))))

@@ -1,6 +1,7 @@
 pub mod Answers
 pub mod Bytes
 pub mod Keys
+pub mod Kinds
 pub mod Messages
 pub mod Refusals
 pub mod Stamps

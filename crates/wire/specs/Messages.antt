@@ -5,13 +5,16 @@
 --   reading ws         what reading answers: that, or the refusal and how many words were passed over
 --   written m          the words of a message, or nothing where no words say it
 use Rattle.std.specs.Prelude.{◌≡◌, ℕ, ◌+◌, ◌*◌, ◌/◌, min, Bool, true, false, cond, ◌&&◌, List, [], ◌∷◌, ◌++◌, length, take, ℤ, is_some, Some, None, Ok, Err, Option, Result, ◌==◌, nat_le, nat_lt, slice_index}
+use Rattle.wire.specs.declared.kind.Kind.{Kind}
+use Rattle.wire.specs.declared.kind.Kind.TheVariants as kind
 use Rattle.wire.specs.declared.message.Message.{Message}
 use Rattle.wire.specs.declared.message.Message.TheVariants.{Begin, Read, Prewrite, Validate, Decide, Withdraw, Settle}
 use Rattle.wire.specs.declared.message.MessageWords.{MessageWords}
 use Rattle.wire.specs.declared.refusal.Refusal.{Refusal}
 use Rattle.wire.specs.declared.refusal.Refusal.TheVariants.{Malformed}
 use Rattle.wire.specs.declared.word.WordFault.{WordFault}
-use Rattle.wire.specs.Words.{kind_of, middle_of, low_of, key_in, value_in}
+use Rattle.wire.specs.Kinds.{kind_number}
+use Rattle.wire.specs.Words.{word_of, kind_of, middle_of, low_of, key_in, value_in}
 
 -- A message: the transaction, then the key, the pair words or the ground.
 pub data Said : Type 0 where
@@ -69,16 +72,16 @@ prewritten t n ws =
     (Some (prewrites t (take (2 * n) ws), 1 + 2 * n))
     None
 
--- The message of a head with its kind, transaction and argument, where the words ws follow the head.
+-- The message of a head with the number n of its kind, its transaction and its argument, where the words ws follow the head.
 abbrev pub headed : ℕ → ℕ → ℕ → List ℕ → Option (Said × ℕ)
-headed kind t arg ws =
-    cond (kind == 1) (bare (begins t) arg)
-    (cond (kind == 2) (Some (reads t arg, 1))
-    (cond (kind == 3) (prewritten t arg ws)
-    (cond (kind == 4) (Some (validates t arg, 1))
-    (cond (kind == 5) (bare (decides t) arg)
-    (cond (kind == 6) (bare (withdraws t) arg)
-    (cond (kind == 7) (Some (settles t arg, 1)) None))))))
+headed n t arg ws =
+    cond (n == kind_number kind.Begin) (bare (begins t) arg)
+    (cond (n == kind_number kind.Read) (Some (reads t arg, 1))
+    (cond (n == kind_number kind.Prewrite) (prewritten t arg ws)
+    (cond (n == kind_number kind.Validate) (Some (validates t arg, 1))
+    (cond (n == kind_number kind.Decide) (bare (decides t) arg)
+    (cond (n == kind_number kind.Withdraw) (bare (withdraws t) arg)
+    (cond (n == kind_number kind.Settle) (Some (settles t arg, 1)) None))))))
 
 -- The message that words begin with.
 abbrev pub first_message : List ℕ → Option (Said × ℕ)
@@ -99,24 +102,19 @@ abbrev pub said_in : Result Message Refusal → Result Said Refusal
 said_in (Ok m) = Ok (said m)
 said_in (Err e) = Err e
 
--- What the code's message and its count of words say.
-abbrev pub said_first : Option (Message × ℕ) → Option (Said × ℕ)
-said_first (Some p) = Some (said p.0, p.1)
-said_first None = None
-
 -- A head word.
-abbrev pub head_word : ℕ → ℕ → ℕ → ℕ
-head_word kind t arg = kind * 268435456 + t * 65536 + arg
+abbrev pub head_word : Kind → ℕ → ℕ → ℕ
+head_word k t arg = word_of k (t * 65536 + arg)
 
 -- The head word of a message.
 abbrev pub head_of : Said → ℕ
-head_of (begins t) = head_word 1 t 0
-head_of (reads t k) = head_word 2 t k
-head_of (prewrites t ps) = head_word 3 t (length ps / 2)
-head_of (validates t g) = head_word 4 t g
-head_of (decides t) = head_word 5 t 0
-head_of (withdraws t) = head_word 6 t 0
-head_of (settles t g) = head_word 7 t g
+head_of (begins t) = head_word kind.Begin t 0
+head_of (reads t k) = head_word kind.Read t k
+head_of (prewrites t ps) = head_word kind.Prewrite t (length ps / 2)
+head_of (validates t g) = head_word kind.Validate t g
+head_of (decides t) = head_word kind.Decide t 0
+head_of (withdraws t) = head_word kind.Withdraw t 0
+head_of (settles t g) = head_word kind.Settle t g
 
 -- The words that follow it.
 abbrev pub pairs_of : Said → List ℕ
@@ -127,6 +125,11 @@ pairs_of (validates t g) = []
 pairs_of (decides t) = []
 pairs_of (withdraws t) = []
 pairs_of (settles t g) = []
+
+-- What the code's message says, and how many words it takes: its head and its pairs.
+abbrev pub said_first : Option Message → Option (Said × ℕ)
+said_first (Some m) = Some (said m, 1 + length (pairs_of (said m)))
+said_first None = None
 
 -- The words that writing answers, one after another.
 abbrev pub listed : MessageWords → List ℕ

@@ -3,6 +3,7 @@ ghost use Rattle.std.specs.Option.{option_to_list};
 ghost use Rattle.wire.specs.Answers.{answer_words};
 ghost use Rattle.wire.specs.Words.{stamp_word};
 
+use crate::kind::Kind;
 use crate::refusal::Refusal;
 use crate::stamp::Stamp;
 use crate::word::{StampKind, stamp_word, value_word};
@@ -18,7 +19,7 @@ pub enum Answer {
     Refused { pairs: u8, refusal: Refusal },
 }
 
-// The words of an answer, one or two.
+// The words of an answer, one or two. No list, since answering allocates nothing.
 #[derive(Clone, Copy, PartialEq, Eq, Debug)]
 pub struct AnswerWords {
     pub first: u32,
@@ -33,42 +34,21 @@ fn told(stamp: Stamp) -> u32
 }
 
 impl Answer {
-    // The words that say the answer.
+    // The words that say the answer. A method and no From, as a message's words are, of which there may be none.
     pub fn words(self) -> AnswerWords
         ensures { result.first ∷ option_to_list result.second ≡ answer_words self }
     {
-        match self {
-            Answer::Done { pairs } => AnswerWords {
-                first: 0xA000_0000 + u32::from(pairs),
-                second: None,
-            },
-            Answer::Value { value, stamp } => {
-                AnswerWords {
-                    first: value_word(value),
-                    second: Some(told(stamp)),
-                }
-            }
-            Answer::Range { lower, upper } => {
-                AnswerWords {
-                    first: told(lower),
-                    second: Some(told(upper)),
-                }
-            }
-            Answer::Committed { stamp } => AnswerWords {
-                first: told(stamp),
-                second: None,
-            },
-            Answer::Aborted => AnswerWords {
-                first: 0xC000_0000,
-                second: None,
-            },
+        let (first, second) = match self {
+            Answer::Done { pairs } => (Kind::Done.word(u32::from(pairs)), None),
+            Answer::Value { value, stamp } => (value_word(value), Some(told(stamp))),
+            Answer::Range { lower, upper } => (told(lower), Some(told(upper))),
+            Answer::Committed { stamp } => (told(stamp), None),
+            Answer::Aborted => (Kind::Aborted.word(0), None),
             Answer::Refused { pairs, refusal } => {
-                let first = 0xD000_0000 + 65536 * u32::from(pairs) + u32::from(refusal.number());
-                AnswerWords {
-                    first,
-                    second: None,
-                }
+                let number = u32::from(u16::from(refusal));
+                (Kind::Refusal.word(65536 * u32::from(pairs) + number), None)
             }
-        }
+        };
+        AnswerWords { first, second }
     }
 }

@@ -8,11 +8,10 @@ pub fn words_in(heap: Global, bytes: &[u8]) -> Result<(Vec<u32>, usize), AllocEr
     ensures words { IfOk result (λ p. p.0.items ≡ words_in bytes.now) }
     ensures left { IfOk result (λ p. p.1 ≡ length bytes.now % 4) }
 {
-    let mut words = Vec::new(heap);
-    let mut rest = bytes;
-    while let [a, b, c, d, tail @ ..] = rest {
-        words.push(u32::from_le_bytes([*a, *b, *c, *d]))?;
-        rest = tail;
-    }
-    Ok((words, rest.len()))
+    let (groups, left) = bytes.as_chunks::<4>();
+    let words = groups
+        .iter()
+        .map(|group| u32::from_le_bytes(*group))
+        .collect(heap)?;
+    Ok((words, left.len()))
 }

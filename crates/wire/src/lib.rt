@@ -3,6 +3,7 @@
 
 pub mod answer;
 pub mod bytes;
+pub mod kind;
 pub mod message;
 pub mod place;
 pub mod refusal;

@@ -1,13 +1,19 @@
-ghost use Rattle.std.specs.Prelude.{◌≡◌, ◌+◌, ◌<◌, ◌≤◌, length, IfSome, if◌then◌else◌, Some, None, nat_le};
+ghost use Rattle.std.specs.Prelude.{◌≡◌, ◌<◌, ◌≤◌, length, IfSome, if◌then◌else◌, Some, None, nat_le};
 ghost use Rattle.std.specs.Option.{option_map};
-ghost use Rattle.wire.specs.Messages.{said, said_in, said_first, first_message, reading, pair_in, pair_at, pairs_good, bare, prewritten};
+ghost use Rattle.wire.specs.Messages.{said, said_in, said_first, first_message, reading, prewritten};
 ghost use Rattle.wire.specs.Messages.{head_word, head_of, pairs_of, listed, sayable, written, ReadsBack, WritesBack};
 
-use crate::refusal::Refusal;
-use crate::word::{key_in, value_in};
+mod pairs;
 
-// A call as words say it. A prewrite's pairs are a part of the words that it was read from.
-#[derive(Clone, Copy)]
+use crate::kind::Kind;
+use crate::refusal::Refusal;
+use crate::word::{low_of, middle_of};
+use pairs::can_be_prewritten;
+pub use pairs::pair_at;
+
+// A call as words say it. A prewrite's pairs are a part of the words that it was read from. They are no `[u32; 2]`s,
+// since a value of this type may hold any words.
+#[derive(Clone, Copy, PartialEq, Eq, Debug)]
 pub enum Message<'w> {
     Begin { transaction: u32 },
     Read { transaction: u32, key: u16 },
@@ -19,137 +25,71 @@ pub enum Message<'w> {
 }
 
 // The words of a message: its head, and its pairs where it has any.
-#[derive(Clone, Copy)]
+#[derive(Clone, Copy, PartialEq, Eq, Debug)]
 pub struct MessageWords<'w> {
     pub head: u32,
     pub pairs: &'w [u32],
 }
 
-// The pair of a key word and a value word, or nothing where one is no such word.
-fn pair_in(key: u32, value: u32) -> Option<(u16, i16)>
-    ensures { result ≡ pair_in key value }
+// A prewrite of `count` pairs, which the words begin with.
+fn prewrite<'w>(transaction: u32, count: u16, words: &'w [u32]) -> Option<Message<'w>>
+    ensures value { said_first result ≡ prewritten transaction count words.now }
+    ensures bound { IfSome result (λ m. length (pairs_of (said m)) ≤ length words.now) }
 {
-    match (key_in(key), value_in(value)) {
-        (Ok(k), Ok(v)) => Some((k, v)),
-        _ => None,
-    }
+    let pairs = words.get(..2 * usize::from(count))?;
+    can_be_prewritten(pairs).then_some(Message::Prewrite { transaction, pairs })
 }
 
-// Whether words are pairs, one after another.
-fn pairs_good(words: &[u32]) -> bool
-    ensures { result ≡ pairs_good words.now }
+// The message that words begin with.
+fn first_message<'w>(words: &'w [u32]) -> Option<Message<'w>>
+    ensures value { said_first result ≡ first_message words.now }
+    ensures bound { IfSome result (λ m. length (pairs_of (said m)) < length words.now) }
 {
-    let mut rest = words;
-    while let [key, value, tail @ ..] = rest {
-        if pair_in(*key, *value).is_none() {
-            return false;
-        }
-        rest = tail;
-    }
-    rest.is_empty()
-}
-
-// The pair number i of a prewrite's pairs, counted from 0, as (key, value); nothing past the end.
-pub fn pair_at(pairs: &[u32], i: usize) -> Option<(u16, i16)>
-    ensures { result ≡ pair_at pairs.now i }
-{
-    if i < pairs.len() / 2 {
-        pair_in(pairs[2 * i], pairs[2 * i + 1])
-    } else {
-        None
-    }
+    let (head, rest) = words.split_first()?;
+    let transaction = middle_of(*head);
+    let argument = low_of(*head);
+    Some(match Kind::of(*head)? {
+        Kind::Begin if argument == 0 => Message::Begin { transaction },
+        Kind::Read => Message::Read {
+            transaction,
+            key: argument,
+        },
+        Kind::Prewrite => prewrite(transaction, argument, rest)?,
+        Kind::Validate => Message::Validate {
+            transaction,
+            ground: argument,
+        },
+        Kind::Decide if argument == 0 => Message::Decide { transaction },
+        Kind::Withdraw if argument == 0 => Message::Withdraw { transaction },
+        Kind::Settle => Message::Settle {
+            transaction,
+            ground: argument,
+        },
+        _ => return None,
+    })
 }
 
 // A head word, or nothing for a transaction that its twelve bits cannot hold.
-fn head_word(kind: u32, transaction: u32, argument: u16) -> Option<u32>
-    requires { kind < 8 }
+fn head_word(kind: Kind, transaction: u32, argument: u16) -> Option<u32>
     ensures { result ≡ (if nat_le transaction 4095 then Some (head_word kind transaction argument) else None) }
 {
     if transaction <= 4095 {
-        Some(kind * 0x1000_0000 + transaction * 65536 + u32::from(argument))
+        Some(kind.word(transaction * 65536 + u32::from(argument)))
     } else {
         None
-    }
-}
-
-// A message of one word, whose argument has to be zero.
-fn bare<'w>(message: Message<'w>, argument: u16) -> Option<(Message<'w>, usize)>
-    ensures value { said_first result ≡ bare (said message.entry) argument }
-    ensures bound { IfSome result (λ p. p.1 ≡ 1) }
-{
-    if argument == 0 {
-        Some((message, 1))
-    } else {
-        None
-    }
-}
-
-// A prewrite of `count` pairs, which the words begin with.
-fn prewrite<'w>(transaction: u32, count: u16, words: &'w [u32]) -> Option<(Message<'w>, usize)>
-    ensures value { said_first result ≡ prewritten transaction count words.now }
-    ensures bound { IfSome result (λ p. (0 < p.1) × (p.1 ≤ length words.now + 1)) }
-{
-    let length = 2 * count as usize;
-    if count == 0 || count > 64 || words.len() < length {
-        return None;
-    }
-    let pairs = &words[0..length];
-    if !pairs_good(pairs) {
-        return None;
-    }
-    Some((Message::Prewrite { transaction, pairs }, 1 + length))
-}
-
-// The message that words begin with, and how many words it takes.
-fn first_message<'w>(words: &'w [u32]) -> Option<(Message<'w>, usize)>
-    ensures value { said_first result ≡ first_message words.now }
-    ensures bound { IfSome result (λ p. (0 < p.1) × (p.1 ≤ length words.now)) }
-{
-    let [head, rest @ ..] = words else {
-        return None;
-    };
-    let transaction = *head / 65536 % 4096;
-    let argument = (*head % 65536) as u16;
-    match *head / 0x1000_0000 {
-        1 => bare(Message::Begin { transaction }, argument),
-        2 => Some((
-            Message::Read {
-                transaction,
-                key: argument,
-            },
-            1,
-        )),
-        3 => prewrite(transaction, argument, rest),
-        4 => Some((
-            Message::Validate {
-                transaction,
-                ground: argument,
-            },
-            1,
-        )),
-        5 => bare(Message::Decide { transaction }, argument),
-        6 => bare(Message::Withdraw { transaction }, argument),
-        7 => Some((
-            Message::Settle {
-                transaction,
-                ground: argument,
-            },
-            1,
-        )),
-        _ => None,
     }
 }
 
 impl<'w> Message<'w> {
     // The message that words begin with and how many words it takes; or refusal 12 and how many words are passed over: one, or none of
-    // no words.
+    // no words. The count stands beside the result, since a reader of many messages needs it in both cases.
     pub fn read(words: &'w [u32]) -> (Result<Message<'w>, Refusal>, usize)
         ensures value { ◌≡◌ (said_in result.0, result.1) (reading words.now) }
         ensures bound { result.1 ≤ length words.now }
         ensures advances { 0 < length words.now → 0 < result.1 }
     {
         match first_message(words) {
-            Some((message, taken)) => (Ok(message), taken),
+            Some(message) => (Ok(message), 1 + message.pairs().len()),
             None => (Err(Refusal::Malformed), words.len().min(1)),
         }
     }
@@ -159,25 +99,24 @@ impl<'w> Message<'w> {
         ensures { result ≡ (if sayable (said self.entry) then Some (head_of (said self.entry)) else None) }
     {
         match self {
-            Message::Begin { transaction } => head_word(1, transaction, 0),
-            Message::Read { transaction, key } => head_word(2, transaction, key),
+            Message::Begin { transaction } => head_word(Kind::Begin, transaction, 0),
+            Message::Read { transaction, key } => head_word(Kind::Read, transaction, key),
             Message::Prewrite { transaction, pairs } => {
-                let count = pairs.len() / 2;
-                if count == 0 || count > 64 || !pairs_good(pairs) {
+                if !can_be_prewritten(pairs) {
                     return None;
                 }
-                head_word(3, transaction, count as u16)
+                head_word(Kind::Prewrite, transaction, (pairs.len() / 2) as u16)
             }
             Message::Validate {
                 transaction,
                 ground,
-            } => head_word(4, transaction, ground),
-            Message::Decide { transaction } => head_word(5, transaction, 0),
-            Message::Withdraw { transaction } => head_word(6, transaction, 0),
+            } => head_word(Kind::Validate, transaction, ground),
+            Message::Decide { transaction } => head_word(Kind::Decide, transaction, 0),
+            Message::Withdraw { transaction } => head_word(Kind::Withdraw, transaction, 0),
             Message::Settle {
                 transaction,
                 ground,
-            } => head_word(7, transaction, ground),
+            } => head_word(Kind::Settle, transaction, ground),
         }
     }
 
@@ -204,9 +143,7 @@ impl<'w> Message<'w> {
 }
 
 // Reading and writing messages undo each other.
-pub fn messages_come_back() -> u8
+pub fn messages_come_back()
     ensures reads_back { ReadsBack }
     ensures writes_back { WritesBack }
-{
-    0
-}
+{}

@@ -1,49 +1,38 @@
 ghost use Rattle.std.specs.Prelude.{◌≡◌, Some};
 ghost use Rattle.wire.specs.Refusals.{number_of, refusal_text};
 
+use std::error::Error;
 use std::fmt;
 
-// Why a call is refused. A refused call leaves books and cells as they stood.
+// Why a call is refused, and the number that says so in a word. A refused call leaves books and cells as they stood.
 #[derive(Clone, Copy, PartialEq, Eq, Debug)]
 pub enum Refusal {
-    BadNumber,
-    NoRoom,
-    NeverBegun,
-    AlreadyDecided,
-    NotRunning,
-    NoRow,
-    ReadAfterPrewrite,
-    StillRunning,
-    NotDecided,
-    AlreadySettled,
-    NoSuchKey,
-    Malformed,
-    BadStore,
+    BadNumber = 1,
+    NoRoom = 2,
+    NeverBegun = 3,
+    AlreadyDecided = 4,
+    NotRunning = 5,
+    NoRow = 6,
+    ReadAfterPrewrite = 7,
+    StillRunning = 8,
+    NotDecided = 9,
+    AlreadySettled = 10,
+    NoSuchKey = 11,
+    Malformed = 12,
+    BadStore = 13,
+}
+
+// The refusal's number, 1 to 13.
+impl From<Refusal> for u16 {
+    ghost from_gives = { λ refusal number. number ≡ number_of refusal };
+
+    fn from(refusal: Refusal) -> u16 {
+        refusal as u16
+    }
 }
 
 impl Refusal {
-    // The refusal's number, 1 to 13.
-    pub fn number(self) -> u16
-        ensures { result ≡ number_of self }
-    {
-        match self {
-            Refusal::BadNumber => 1,
-            Refusal::NoRoom => 2,
-            Refusal::NeverBegun => 3,
-            Refusal::AlreadyDecided => 4,
-            Refusal::NotRunning => 5,
-            Refusal::NoRow => 6,
-            Refusal::ReadAfterPrewrite => 7,
-            Refusal::StillRunning => 8,
-            Refusal::NotDecided => 9,
-            Refusal::AlreadySettled => 10,
-            Refusal::NoSuchKey => 11,
-            Refusal::Malformed => 12,
-            Refusal::BadStore => 13,
-        }
-    }
-
-    // The cause as a text.
+    // The cause as a text, for whoever has no formatter.
     pub fn text(self) -> &'static str
         ensures { result.now ≡ refusal_text self }
     {
@@ -73,3 +62,5 @@ impl fmt::Display for Refusal {
         f.write_str(self.text())
     }
 }
+
+impl Error for Refusal {}

@@ -1,7 +1,5 @@
 ghost use Rattle.std.specs.Prelude.{◌≤◌};
 
-mod methods;
-
 // The largest stamp.
 pub const TOP: u32 = 268_435_455;
 
@@ -10,4 +8,60 @@ pub const TOP: u32 = 268_435_455;
 pub struct Stamp {
     number: u32,
     ghost within: { number ≤ 268435455 },
+}
+
+impl Stamp {
+    ghost use Rattle.std.specs.Prelude.{◌≡◌, ◌%◌, pos, ◌+ℤ◌, ◌-ℤ◌};
+    ghost use Rattle.wire.specs.Stamps.{stamp, stamp_at, stamp_of_bound};
+
+    // The stamp of a number, or nothing where the number lies above TOP.
+    pub fn new(number: u32) -> Option<Self>
+        ensures { result ≡ stamp_at number }
+    {
+        if number <= TOP {
+            Some(Stamp { number })
+        } else {
+            None
+        }
+    }
+
+    // The stamp in the low 28 bits of a word.
+    pub fn in_word(word: u32) -> Self
+        ensures { result ≡ stamp (word % 268435456) }
+    {
+        Stamp {
+            number: word % 0x1000_0000,
+        }
+    }
+
+    // The stamp of a signed bound, or nothing where the bound is -1 or TOP + 1 or beyond. The name, which TryFrom has not, says
+    // that the number is a bound.
+    pub fn from_bound(bound: i32) -> Option<Self>
+        ensures { result ≡ stamp_of_bound bound }
+    {
+        Stamp::new(u32::try_from(bound).ok()?)
+    }
+
+    // The stamp's number.
+    pub fn number(self) -> u32
+        ensures { result ≡ self.number }
+    {
+        self.number
+    }
+
+    // The lowest bound above the stamp, 1 to TOP + 1.
+    pub fn above(self) -> i32
+        ensures { result ≡ pos self.number +ℤ pos 1 }
+    {
+        let Stamp { number } = self;
+        number as i32 + 1
+    }
+
+    // The highest bound below the stamp, -1 to TOP - 1.
+    pub fn below(self) -> i32
+        ensures { result ≡ pos self.number -ℤ pos 1 }
+    {
+        let Stamp { number } = self;
+        number as i32 - 1
+    }
 }

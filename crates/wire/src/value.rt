@@ -2,6 +2,7 @@ ghost use Rattle.std.specs.Prelude.{◌≡◌};
 ghost use Rattle.wire.specs.Values.{value_of, bits_of};
 
 // The value of sixteen bits, in two's complement: FFFF is -1, 8000 is -32,768, 7FFF is 32,767.
+// No From, here and below: both types are the language's own.
 pub fn value_of(bits: u16) -> i16
     ensures value { result ≡ value_of bits }
     ensures back { bits_of result ≡ bits }

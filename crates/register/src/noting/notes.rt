@@ -1,12 +1,14 @@
-ghost use Rattle.std.specs.Prelude.{◌≡◌, ◌+◌, ◌<◌, ◌≤◌, [], ◌∷◌, ◌++◌, map, length};
+ghost use Rattle.std.specs.Prelude.{◌≡◌, ◌+◌, ◌≤◌, ◌&&◌, [], map, length, ◌==◌};
 ghost use Rattle.book.specs.Books.{held};
-ghost use Rattle.register.specs.Meetings.{notes_met};
-ghost use Rattle.register.specs.Room.{new_notes};
+ghost use Rattle.lines.specs.Locks.{lock_stands};
+ghost use Rattle.register.specs.Meetings.{Gathers};
+ghost use Rattle.register.specs.Noting.{locks_on};
 
-use crate::noting::meeting::{Meeting, note_met};
+use crate::gathered::Gathered;
 use book::book::Book;
 use book::line::Line;
 use lines::access::{AccessKey, READS, WRITES};
+use lines::lock::lock_stands;
 use lines::note::{Note, Order};
 use lines::row::Row;
 
@@ -14,65 +16,53 @@ use lines::row::Row;
 const MOST_NOTES: usize = READS + WRITES;
 
 // The notes that a call will write. They are gathered once, before it is known whether there is room for them.
-#[derive(Drop)]
-pub(crate) struct NewNotes {
-    notes: [Note; MOST_NOTES],
-    count: usize,
+pub(crate) type NewNotes = Gathered<Note, MOST_NOTES>;
+
+// The note on how two transactions that met at a key are ordered.
+pub(crate) fn note(key: u16, first: u32, order: Order, second: u32) -> Note
+    ensures { result ≡ record { key = key; first = first; second = second; order = order } }
+{
+    Note {
+        key,
+        first,
+        second,
+        order,
+    }
 }
 
-impl NewNotes {
-    // No notes.
-    pub(crate) fn new() -> NewNotes
-        ensures notes { new_notes result ≡ [] }
-        ensures count { result.count ≡ 0 }
-    {
-        let blank = Note {
-            key: 0,
-            first: 0,
-            second: 0,
-            order: Order::Before,
-        };
-        NewNotes {
-            notes: [blank; MOST_NOTES],
-            count: 0,
-        }
-    }
+// No notes yet.
+pub(crate) fn no_notes() -> NewNotes
+    ensures { result ≡ [] }
+{
+    Gathered::new(note(0, 0, Order::Before, 0))
+}
 
-    // Adds a note.
-    fn add(&mut self, note: Note)
-        requires { self.old.count < 1024 }
-        ensures notes { new_notes self.new ≡ new_notes self.old ++ note ∷ [] }
-        ensures count { self.new.count ≡ self.old.count + 1 }
-    {
-        self.notes[self.count] = note;
-        self.count += 1;
-    }
+// Whether a line stands as a soft lock on a key.
+fn holds(rows: &Book<Row>, line: AccessKey, key: u16) -> bool
+    ensures { result ≡ (line.key == key && lock_stands (held rows.now) line.transaction key) }
+{
+    line.key == key && lock_stands(rows, line)
+}
 
-    // Adds the notes of an access for some read or write lines.
-    pub(crate) fn gather<L: Line<Key = AccessKey>>(
-        &mut self,
-        meeting: Meeting,
-        access: AccessKey,
-        rows: &Book<Row>,
-        lines: &[L],
-    )
-        requires { self.old.count + length lines.now ≤ 1024 }
-        ensures notes { new_notes self.new
-            ≡ new_notes self.old ++ notes_met meeting access (held rows.now) (map L.keyed lines.now) }
-        ensures count { self.new.count ≤ self.old.count + length lines.now }
-    {
-        for line in lines {
-            if let Some(note) = note_met(meeting, access, rows, line.key()) {
-                self.add(note);
+// Adds the notes that are wanted for the holders of the soft locks on a key, which some read or write lines stand as.
+pub(crate) fn gather<L: Line<Key = AccessKey>, F: Fn(u32) -> Option<Note>>(
+    notes: &mut NewNotes,
+    key: u16,
+    rows: &Book<Row>,
+    lines: &[L],
+    note_for: F,
+)
+    requires room { length notes.old + length lines.now ≤ 1024 }
+    requires callable { F.IsAlwaysCallable note_for }
+    ensures met { Gathers (F.post note_for) notes.old (locks_on (held rows.now) key (map L.keyed lines.now)) notes.new }
+    ensures count { length notes.new ≤ length notes.old + length lines.now }
+{
+    for line in lines {
+        let line = line.key();
+        if holds(rows, line, key) {
+            if let Some(note) = note_for(line.transaction) {
+                notes.push(note);
             }
         }
-    }
-
-    // The notes, in their order. The type does not say that the count stays within the array.
-    pub(crate) fn as_slice(&self) -> &[Note]
-        ensures { result.now ≡ new_notes self.now }
-    {
-        let notes: &[Note] = &self.notes;
-        &notes[..self.count.min(notes.len())]
     }
 }

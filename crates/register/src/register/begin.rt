@@ -4,7 +4,7 @@ ghost use Rattle.register.specs.Calls.{begin};
 ghost use Rattle.register.specs.Registers.{model, Keeps, KeepsButTransactions};
 
 use crate::register::Register;
-use lines::transaction::{Decision, Transaction};
+use lines::transaction::Transaction;
 use policy::policy::Policy;
 use store::store::Store;
 use wire::refusal::Refusal;
@@ -26,7 +26,7 @@ impl<'a, S: Store, P: Policy> Register<'a, S, P> {
         }
         self.transactions.add(Transaction {
             number: transaction,
-            decision: Decision::Open,
+            decision: None,
         })
     }
 }

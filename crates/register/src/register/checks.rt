@@ -13,30 +13,17 @@ use crate::register::Register;
 use crate::register::deciding::any_running;
 use lines::access::{AccessKey, WriteLine};
 use lines::row::{Row, RowKey, State};
-use lines::transaction::{Decision, Transaction};
+use lines::transaction::Transaction;
 use policy::policy::Policy;
 use store::cell::Cell;
 use store::store::Store;
-use wire::place::Place;
 use wire::refusal::Refusal;
-
-// Whether a write line is a transaction's.
-fn is_write_of(line: &WriteLine, transaction: u32) -> bool
-    ensures { result ≡ is_write_of transaction line.now }
-{
-    line.transaction == transaction
-}
 
 // Whether a transaction has a write line.
 fn any_write(writes: &[WriteLine], transaction: u32) -> bool
     ensures { result ≡ any (is_write_of transaction) writes.now }
 {
-    for line in writes {
-        if is_write_of(line, transaction) {
-            return true;
-        }
-    }
-    false
+    writes.iter().any(|line| line.transaction == transaction)
 }
 
 // That a row is Running.
@@ -64,8 +51,8 @@ impl<'a, S: Store, P: Policy> Register<'a, S, P> {
         ensures { result ≡ open_now (model S.cells self.now) transaction }
     {
         match self.line_of(transaction)?.decision {
-            Decision::Open => Ok(()),
-            Decision::Committed(_) | Decision::Aborted => Err(Refusal::AlreadyDecided),
+            None => Ok(()),
+            Some(_) => Err(Refusal::AlreadyDecided),
         }
     }
 
@@ -87,21 +74,18 @@ impl<'a, S: Store, P: Policy> Register<'a, S, P> {
     }
 
     // The row of a transaction at a ground, or nothing.
-    pub(super) fn row_of(&self, transaction: u32, ground: u16) -> Option<Row>
-        ensures row { result ≡ row_of (held self.now.rows) transaction ground }
+    pub(super) fn row_of(&self, key: RowKey) -> Option<Row>
+        ensures row { result ≡ row_of (held self.now.rows.book) key.transaction key.ground }
         ensures bounded { IfSome result Bounded }
     {
-        self.rows.find(RowKey {
-            transaction,
-            ground,
-        })
+        self.rows.find(key)
     }
 
     // That the transaction has no row yet at the ground of a key, or one that is Running.
     pub(super) fn unless_past(&self, access: AccessKey) -> Result<(), Refusal>
-        ensures { result ≡ unless_past (row_of (held self.now.rows) access.transaction (ground_of access.key)) }
+        ensures { result ≡ unless_past (row_of (held self.now.rows.book) access.transaction (ground_of access.key)) }
     {
-        match self.row_of(access.transaction, Place::of_key(access.key).burial_ground) {
+        match self.row_of(access.row_key()) {
             Some(row) => running(&row),
             None => Ok(()),
         }

@@ -35,7 +35,7 @@ impl<'a, S: Store, P: Policy> Register<'a, S, P> {
     {
         let line = Transaction {
             number: transaction,
-            decision,
+            decision: Some(decision),
         };
         replace(&mut self.transactions, transaction, line);
     }

@@ -3,10 +3,11 @@ ghost use Rattle.register.specs.Model.{new};
 ghost use Rattle.register.specs.Registers.{model, rooms_in, Lent};
 
 use crate::register::Register;
+use crate::row_book::RowBook;
 use book::book::Book;
 use lines::access::{READS, ReadLine, WRITES, WriteLine};
 use lines::note::{NOTES, Note};
-use lines::row::{ROWS, Row};
+use lines::row::Row;
 use lines::transaction::{TRANSACTIONS, Transaction};
 use policy::policy::Policy;
 use store::store::Store;
@@ -28,7 +29,7 @@ impl<'a, S: Store, P: Policy> Register<'a, S, P> {
         ensures store { result.store ≡ store }
         ensures policy { result.policy ≡ policy }
         ensures transactions { Lent result.transactions transactions.entry }
-        ensures rows { Lent result.rows rows.entry }
+        ensures rows { Lent result.rows.book rows.entry }
         ensures reads { Lent result.reads reads.entry }
         ensures writes { Lent result.writes writes.entry }
         ensures notes { Lent result.notes notes.entry }
@@ -37,7 +38,7 @@ impl<'a, S: Store, P: Policy> Register<'a, S, P> {
             store,
             policy,
             transactions: Book::new(transactions, TRANSACTIONS),
-            rows: Book::new(rows, ROWS),
+            rows: RowBook::new(rows),
             reads: Book::new(reads, READS),
             writes: Book::new(writes, WRITES),
             notes: Book::new(notes, NOTES),

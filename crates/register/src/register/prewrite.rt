@@ -3,7 +3,6 @@ ghost use Rattle.store.specs.Stores.{Refuses};
 ghost use Rattle.register.specs.Calls.{prewrite};
 ghost use Rattle.register.specs.Registers.{model, Keeps};
 
-use crate::noting::additions::Additions;
 use crate::register::Register;
 use crate::replacing::replace;
 use lines::access::{AccessKey, WriteLine};
@@ -32,11 +31,9 @@ impl<'a, S: Store, P: Policy> Register<'a, S, P> {
             replace(&mut self.writes, access, line);
             return Ok(());
         }
-        let additions = Additions::of_prewrite(access, &self.rows, &self.reads, &self.writes);
-        if !additions.fit(&self.rows, &self.writes, &self.notes) {
-            return Err(Refusal::NoRoom);
-        }
-        additions.add_with(line, &mut self.rows, &mut self.writes, &mut self.notes);
+        let additions = self.additions_of_prewrite(access);
+        let rows = &mut self.rows;
+        additions.add_with(line, &mut rows.book, &mut self.writes, &mut self.notes)?;
         Ok(())
     }
 }

@@ -3,7 +3,6 @@ ghost use Rattle.store.specs.Stores.{Refuses};
 ghost use Rattle.register.specs.Calls.{read};
 ghost use Rattle.register.specs.Registers.{model, Keeps};
 
-use crate::noting::additions::Additions;
 use crate::register::Register;
 use lines::access::{AccessKey, ReadLine};
 use policy::policy::Policy;
@@ -27,17 +26,15 @@ impl<'a, S: Store, P: Policy> Register<'a, S, P> {
         if let Some(line) = self.reads.find(access) {
             return Ok((line.value, line.seen));
         }
-        let additions = Additions::of_read(access, &self.rows, &self.writes);
-        if !additions.fit(&self.rows, &self.reads, &self.notes) {
-            return Err(Refusal::NoRoom);
-        }
         let line = ReadLine {
             transaction,
             key,
             value: cell.value,
             seen: cell.write,
         };
-        additions.add_with(line, &mut self.rows, &mut self.reads, &mut self.notes);
+        let additions = self.additions_of_read(access);
+        let rows = &mut self.rows;
+        additions.add_with(line, &mut rows.book, &mut self.reads, &mut self.notes)?;
         Ok((cell.value, cell.write))
     }
 }

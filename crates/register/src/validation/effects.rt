@@ -3,9 +3,9 @@ ghost use Rattle.book.specs.Books.{held};
 ghost use Rattle.register.specs.Validation.{other_party};
 ghost use Rattle.register.specs.Findings.{Located};
 
-use book::book::Book;
-use lines::note::{Effect, Note, Side};
-use lines::row::{Row, RowKey};
+use crate::row_book::RowBook;
+use lines::note::{Effect, Note};
+use lines::row::RowKey;
 use wire::place::Place;
 
 // The other party of a note.
@@ -21,23 +21,17 @@ fn other_party(note: &Note, transaction: u32) -> u32
 
 // What follows from a note for the transaction at the ground, with the place of the other party's row; nothing where that party
 // has no row. From a note of another ground, or of two others, nothing follows either, and no row is searched for.
-pub fn located_effect(
-    rows: &Book<Row>,
-    transaction: u32,
-    ground: u16,
-    note: &Note,
-) -> Option<(usize, Effect)>
-    ensures { Located (held rows.now) transaction ground note.now result }
+pub fn located_effect(rows: &RowBook, own: RowKey, note: &Note) -> Option<(usize, Effect)>
+    ensures { Located (held rows.now.book) own.transaction own.ground note.now result }
 {
-    if Place::of_key(note.key).burial_ground != ground
-        || matches!(note.side(transaction), Side::Neither)
-    {
+    if Place::from(note.key).burial_ground != own.ground {
         return None;
     }
-    let place = rows.search(RowKey {
-        transaction: other_party(note, transaction),
-        ground,
+    let side = note.side(own.transaction)?;
+    let place = rows.book.search(RowKey {
+        transaction: other_party(note, own.transaction),
+        ..own
     })?;
-    let row = rows.get(place)?;
-    Some((place, note.effect(transaction, &row)))
+    let row = rows.book.get(place)?;
+    Some((place, side.effect(&row)?))
 }

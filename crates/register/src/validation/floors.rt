@@ -1,81 +1,46 @@
-ghost use Rattle.std.specs.Prelude.{◌≡◌};
-ghost use Rattle.std.specs.List.{flat_map};
-ghost use Rattle.register.specs.Validation.{of_here, raised_above, read_floor, stamps_of, write_floor};
+ghost use Rattle.std.specs.Prelude.{◌≡◌, pos, Some};
+ghost use Rattle.register.specs.Ranges.{above, above_all, above_reads, above_writes};
+ghost use Rattle.register.specs.Validation.{stamps_of};
 
+use crate::range::Range;
+use book::line::Line;
 use lines::access::{ReadLine, WriteLine};
+use lines::row::RowKey;
 use store::cell::Cell;
 use store::store::Store;
-use wire::place::Place;
+use wire::stamp::Stamp;
 
-// Whether a line of some transaction at some key is one of the transaction that is validated, at the ground.
-fn is_here(transaction: u32, ground: u16, owner: u32, key: u16) -> bool
-    ensures { result ≡ of_here transaction ground owner key }
+// What is left of a range above a stamp.
+fn above_stamp(range: Range, stamp: Stamp) -> Range
+    ensures { result ≡ above range (pos stamp.number) }
 {
-    owner == transaction && Place::of_key(key).burial_ground == ground
+    range.above(stamp.number() as i32)
 }
 
-// A lower bound raised above what a read line saw, if it is one of the transaction here.
-fn above_read(lower: i32, transaction: u32, ground: u16, line: &ReadLine) -> i32
-    ensures { result ≡ raised_above lower (read_floor transaction ground line.now) }
+// What is left of a range above both stamps of a cell.
+fn above_cell(range: Range, cell: Cell) -> Range
+    ensures { result ≡ above_all range (stamps_of (Some cell)) }
 {
-    if is_here(transaction, ground, line.transaction, line.key) {
-        lower.max(line.seen.above())
-    } else {
-        lower
-    }
+    above_stamp(above_stamp(range, cell.read), cell.write)
 }
 
-// The lower bound raised above the write stamps that the transaction saw at the ground.
-pub fn above_reads(lower: i32, transaction: u32, ground: u16, reads: &[ReadLine]) -> i32
-    ensures { result ≡ raised_above lower (flat_map (read_floor transaction ground) reads.now) }
+// What is left of a range above the write stamps that the transaction saw at the ground.
+pub fn above_reads(range: Range, own: RowKey, reads: &[ReadLine]) -> Range
+    ensures { result ≡ above_reads own.transaction own.ground range reads.now }
 {
-    let mut raised = lower;
-    for line in reads {
-        raised = above_read(raised, transaction, ground, line);
-    }
-    raised
+    reads
+        .iter()
+        .filter(|line| line.key().row_key() == own)
+        .fold(range, |left, line| above_stamp(left, line.seen))
 }
 
-// A lower bound raised above both stamps of a cell, if there is one.
-fn above_cell(lower: i32, cell: Option<Cell>) -> i32
-    ensures { result ≡ raised_above lower (stamps_of cell) }
+// What is left of a range above the stamps of the cells that the transaction writes at the ground.
+pub fn above_writes<S: Store>(range: Range, own: RowKey, writes: &[WriteLine], store: &S) -> Range
+    ensures { result ≡ above_writes (S.cells store.now) own.transaction own.ground range writes.now }
 {
-    match cell {
-        Some(cell) => lower.max(cell.read.above()).max(cell.write.above()),
-        None => lower,
-    }
-}
-
-// A lower bound raised above the stamps that a write line's cell has now, if the line is one of the transaction here.
-fn above_write<S: Store>(
-    lower: i32,
-    transaction: u32,
-    ground: u16,
-    line: &WriteLine,
-    store: &S,
-) -> i32
-    ensures { result ≡ raised_above lower (write_floor (S.cells store.now) transaction ground line.now) }
-{
-    if is_here(transaction, ground, line.transaction, line.key) {
-        above_cell(lower, store.fetch(line.key))
-    } else {
-        lower
-    }
-}
-
-// The lower bound raised above the stamps of the cells that the transaction writes at the ground.
-pub fn above_writes<S: Store>(
-    lower: i32,
-    transaction: u32,
-    ground: u16,
-    writes: &[WriteLine],
-    store: &S,
-) -> i32
-    ensures { result ≡ raised_above lower (flat_map (write_floor (S.cells store.now) transaction ground) writes.now) }
-{
-    let mut raised = lower;
-    for line in writes {
-        raised = above_write(raised, transaction, ground, line, store);
-    }
-    raised
+    writes
+        .iter()
+        .filter(|line| line.key().row_key() == own)
+        .filter_map(|line| store.fetch(line.key))
+        .fold(range, above_cell)
 }

@@ -1,37 +1,38 @@
-ghost use Rattle.std.specs.Prelude.{◌≡◌, [], ◌∷◌, None};
-ghost use Rattle.store.specs.Flats.{flat_fault, flat_has, flat_means, cells_of, fault_of};
+ghost use Rattle.std.specs.Prelude.{◌≡◌, ◌/◌, ◌<◌, not, is_some, [], ◌∷◌, length, IfSome, None};
+ghost use Rattle.store.specs.Faults.{checked};
+ghost use Rattle.store.specs.Flats.{flat_fault, flat_line, flat_means};
 
 use crate::cell::Cell;
 use crate::fault::{Cause, Fault};
-use crate::memory::{Layout, cell_at, lines_fault, put_cell, shape_cause};
+use crate::memory::{check_lines, check_shape, put_cell};
 use crate::store::Store;
 use wire::refusal::Refusal;
 
-// One ground's first keys, in memory of three words a cell.
+// One ground's first keys, in memory of three words a cell. Whether it is good is found once, and no call changes it.
 #[derive(Drop)]
 pub struct Flat<'a> {
+    // A flag, since good and bad memory are lent alike; the type says what it tells.
     good: bool,
-    ground: u16,
+    burial_ground: u16,
     words: &'a mut [u32],
+    ghost good_is: { good ≡ not (is_some (flat_fault burial_ground words.now)) },
 }
 
-// The first fault of memory as a ground's flat store, or nothing.
-pub fn flat_fault(ground: u16, words: &[u32]) -> Option<Fault>
-    ensures { result ≡ flat_fault ground words.now }
+// The first fault of memory as a ground's flat store, if any.
+pub fn check_flat(ground: u16, words: &[u32]) -> Result<(), Fault>
+    ensures { result ≡ checked (flat_fault ground words.now) }
 {
-    if let Some(cause) = shape_cause(Layout::Bare, words) {
-        return Some(Fault { cause, line: None });
-    }
+    let (lines, rest) = words.as_chunks::<3>();
+    check_shape(lines, rest)?;
     if ground > 7 {
-        return Some(Fault {
-            cause: Cause::GroundAbove7,
-            line: None,
-        });
+        return Err(Cause::GroundAbove7.into());
     }
-    lines_fault(Layout::Bare, words)
+    check_lines(lines)
 }
 
 impl<'a> Flat<'a> {
+    ghost use Rattle.store.specs.FlatStores.{cells_of, fault_of};
+
     // The store that the memory means; of memory with a fault, one without keys.
     pub fn new(ground: u16, words: &'a mut [u32]) -> Flat<'a>
         ensures cells { cells_of result ≡ flat_means ground words.old }
@@ -39,23 +40,28 @@ impl<'a> Flat<'a> {
         ensures words { result.words.now ≡ words.old }
         ensures lent { result.words.ghost_name ≡ words.entry.ghost_name }
     {
-        let good = flat_fault(ground, words).is_none();
+        let good = check_flat(ground, words).is_ok();
         Flat {
             good,
-            ground,
+            burial_ground: ground,
             words,
         }
     }
 
-    // Whether a key is one of the store's.
-    fn has(&self, key: u16) -> bool
-        ensures { result ≡ flat_has self.now.good self.now.ground self.now.words.now key }
+    // The line of a key, where it is one of the store's.
+    fn line(&self, key: u16) -> Option<usize>
+        ensures value { result ≡ flat_line self.now.good self.now.burial_ground self.now.words.now key }
+        ensures bound { IfSome result (λ i. i < length self.now.words.now / 3) }
     {
-        self.good && key / 8192 == self.ground && ((key % 8192) as usize) < self.words.len() / 3
+        let i = usize::from(key % 8192);
+        let has = self.good && key / 8192 == self.burial_ground && i < self.words.len() / 3;
+        has.then_some(i)
     }
 }
 
 impl<'a> Store for Flat<'a> {
+    ghost use Rattle.store.specs.FlatStores.{cells_of, fault_of};
+
     ghost cells = { λ s. cells_of s };
 
     ghost sound = { λ s. fault_of s ≡ None };
@@ -63,19 +69,14 @@ impl<'a> Store for Flat<'a> {
     ghost lent = { λ s. s.words.ghost_name ∷ [] };
 
     fn fetch(&self, key: u16) -> Option<Cell> {
-        if self.has(key) {
-            Some(cell_at(self.words, 3 * (key % 8192) as usize))
-        } else {
-            None
-        }
+        let i = self.line(key)?;
+        let (lines, _) = self.words.as_chunks::<3>();
+        Some(Cell::in_words(lines[i]))
     }
 
     fn put(&mut self, key: u16, cell: Cell) -> Result<(), Refusal> {
-        if self.has(key) {
-            put_cell(self.words, 3 * (key % 8192) as usize, cell);
-            Ok(())
-        } else {
-            Err(Refusal::NoSuchKey)
-        }
+        let i = self.line(key).ok_or(Refusal::NoSuchKey)?;
+        put_cell(self.words, 3 * i, cell);
+        Ok(())
     }
 }

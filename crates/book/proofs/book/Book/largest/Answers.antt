@@ -3,8 +3,7 @@ use Rattle.book.specs.Books.{held}
 use Rattle.book.proofs.Largest.{none_above}
 use Rattle.book.proofs.book.Book.largest.Goals as goal
 
-pub returns : goal.returns
-returns g c =
-    let m = g.L.Line in
-    let most = none_above m.order g.met.L.Line.total (map m.keyed (held c.args.self.now)) in
+pub returns-clause-most : goal.returns-clause-most
+returns-clause-most g c =
+    let most = none_above g.L.Key.Ord.cmp g.met.L.Key.Ord.total (map g.L.Line.keyed (held c.args.self.now)) in
     search rules

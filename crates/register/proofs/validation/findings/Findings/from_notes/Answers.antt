@@ -1,13 +1,13 @@
-use Rattle.std.proofs.Common.{◌≡◌, length, get_or, take, fold, sym, ap, ◌∙◌, w32}
+use Rattle.std.proofs.Common.{◌≡◌, get_or, fold, sym, ap, ◌∙◌, subst}
 use Rattle.std.proofs.lemmas.List.{take_all}
-use Rattle.std.proofs.lemmas.Int.{to_z-of_z}
 use Rattle.std.proofs.lemmas.List.Sums.{fold_more}
 use Rattle.book.specs.Books.{held}
 use Rattle.lines.specs.declared.note.Note.{Note}
 use Rattle.lines.specs.declared.note.Order.TheVariants.{Before}
-use Rattle.register.specs.Findings.{unfound, noted}
+use Rattle.register.specs.Findings.{unfound, noted, Marked}
 use Rattle.register.specs.declared.validation.findings.Findings.{Findings}
-use Rattle.register.proofs.Marking.{lower_noted, upper_noted, before_noted, after_noted}
+use Rattle.register.proofs.Marking.{lower_noted, upper_noted, marks_are}
+use Rattle.register.proofs.RowBook.{few_held, rows_sound}
 use Rattle.register.proofs.validation.findings.Findings.from_notes.Goals as goal
 
 -- What a read of a slice of notes has as its default.
@@ -16,7 +16,7 @@ no_note = record { key = 0; first = 0; second = 0; order = Before }
 
 pub loop-note-preserved : goal.loop-note-preserved
 loop-note-preserved c =
-    let add = noted (held c.args.rows.now) c.args.transaction c.args.ground in
+    let add = noted (held c.args.rows.now.book) c.args.own.transaction c.args.own.ground in
     let note = get_or c.args.notes.now c.loop-note.note-index no_note in
     c.add_note.ensures
     ∙ (ap (λ (f : Findings). add f note) c.loop-note.invariant
@@ -24,21 +24,18 @@ loop-note-preserved c =
 
 pub returns : goal.returns
 returns c =
-    let rows = held c.args.rows.now in
-    let t = c.args.transaction in
-    let g = c.args.ground in
+    let book = c.args.rows.now.book in
+    let rows = held book in
+    let t = c.args.own.transaction in
+    let g = c.args.own.ground in
     let notes = c.args.notes.now in
-    let l = c.args.lower in
-    let u = c.args.upper in
-    let low = to_z-of_z w32 l c.ranges.lower in
-    let high = to_z-of_z w32 u c.ranges.upper in
+    let begun = unfound c.args.range in
     let every = take_all c.loop-note.note-index notes c.loop-note-test.false in
-    let all : c.loop-note.findings ≡ fold (noted rows t g) (unfound l u) notes = cc in
+    let new : c.new-findings.result ≡ begun = c.new-findings.ensures in
+    let all : c.loop-note.findings ≡ fold (noted rows t g) begun notes = cc in
     record {
-      lower = ap (λ (f : Findings). f.lower) all ∙ lower_noted rows t g (unfound l u) notes;
-      upper = ap (λ (f : Findings). f.upper) all ∙ upper_noted rows t g (unfound l u) notes;
-      marked = record {
-        before = ap (λ (f : Findings). take (length rows) f.before) all ∙ before_noted rows t g l u notes c.requires.distinct c.requires.few;
-        after = ap (λ (f : Findings). take (length rows) f.after) all ∙ after_noted rows t g l u notes c.requires.distinct c.requires.few;
-      };
+      lower = ap (λ (f : Findings). f.range.lower) all ∙ lower_noted rows t g begun notes;
+      upper = ap (λ (f : Findings). f.range.upper) all ∙ upper_noted rows t g begun notes;
+      marked = subst (Marked rows notes t g) (sym all) (marks_are rows t g c.args.range notes
+          (rows_sound rows c.args.rows.now.sound).single (few_held book 256 c.args.rows.now.few));
     }

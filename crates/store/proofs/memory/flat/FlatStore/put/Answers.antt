@@ -1,24 +1,24 @@
-use Rattle.std.proofs.Common.{◌≡◌, ℕ, ◌*◌, ◌%◌, List, None, Ok, sym, refl, ap, ◌∙◌, subst}
-use Rattle.store.specs.Flats.{flat_cells, flat_fault}
+use Rattle.std.proofs.Common.{◌≡◌, ◌*◌, Some, sym, ap, ◌∙◌, arith}
+use Rattle.store.specs.Flats.{flat_line}
 use Rattle.store.specs.Memory.{cell_at, cell_cause}
-use Rattle.store.specs.Stores.{Put}
-use Rattle.store.proofs.FlatPut.{flat_put, flat_kept}
+use Rattle.store.proofs.FlatPut.{flag_kept, flat_put}
 use Rattle.store.proofs.memory.flat.FlatStore.put.Goals as goal
 
-pub returns-then-has : goal.returns-then-has
-returns-then-has c =
+pub invariant_of-self : goal.invariant_of-self
+invariant_of-self c =
     let s = c.args.self.now in
-    let ws = s.words.now in
-    let k = c.args.key in
-    let x = c.args.cell in
-    let is = c.put_cell.ensures.words in
-    let here = ap (λ vs. cell_at vs (3 * (k % 8192))) (sym is) ∙ c.put_cell.ensures.cell in
-    let sound = ap (λ vs. cell_cause vs (3 * (k % 8192))) (sym is) ∙ c.put_cell.ensures.sound in
-    let Puts : List ℕ → Type 0 = λ vs. Put (flat_cells s.good s.ground ws) (flat_cells s.good s.ground vs) k x (Ok tt) in
-    let Sound : List ℕ → Type 0 = λ vs. flat_fault s.ground ws ≡ None → flat_fault s.ground vs ≡ None in
+    let at : Some c.in_ok-i.i ≡ flat_line s.good s.burial_ground s.words.now c.args.key = grind arith in
+    let sound = ap (λ vs. cell_cause vs (3 * c.in_ok-i.i)) (sym c.put_cell.ensures.words) ∙ c.put_cell.ensures.sound in
     record {
-      put = subst Puts (sym is) (flat_put s.good s.ground ws k x (sym c.if-has.ensures) here);
-      refused = tt;
-      lent = refl;
-      sound = subst Sound (sym is) (flat_kept s.ground ws (k % 8192) x sound);
+      good_is = flag_kept s.good s.burial_ground s.words.now c.args.key c.in_ok-i.i s.good_is at c.args.cell sound _
+          c.put_cell.ensures.words;
     }
+
+pub returns-clause-put : goal.returns-clause-put
+returns-clause-put c =
+    let s = c.args.self.now in
+    let at : Some c.in_ok-i.i ≡ flat_line s.good s.burial_ground s.words.now c.args.key = grind arith in
+    let is = sym c.put_cell.ensures.words in
+    let sound = ap (λ vs. cell_cause vs (3 * c.in_ok-i.i)) is ∙ c.put_cell.ensures.sound in
+    let here = ap (λ vs. cell_at vs (3 * c.in_ok-i.i)) is ∙ c.put_cell.ensures.cell in
+    flat_put s.good s.burial_ground s.words.now c.args.key c.in_ok-i.i s.good_is at c.args.cell sound _ c.put_cell.ensures.words here

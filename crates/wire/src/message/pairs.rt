@@ -1,0 +1,51 @@
+ghost use Rattle.std.specs.Prelude.{◌≡◌, ◌/◌, ◌&&◌, length, is_some, slice_index};
+ghost use Rattle.std.specs.List.{list_all};
+ghost use Rattle.wire.specs.Messages.{pair_in, pair_at, pairs_good, count_good};
+
+use crate::word::{key_in, value_in};
+
+// The pair of a key word and a value word, or nothing where one is no such word.
+fn pair_in(words: &[u32; 2]) -> Option<(u16, i16)>
+    ensures { result ≡ pair_in (slice_index words.now 0) (slice_index words.now 1) }
+{
+    let [key, value] = words;
+    key_in(*key).ok().zip(value_in(*value).ok())
+}
+
+// The pair number i of a prewrite's pairs, counted from 0, as (key, value); nothing past the end.
+pub fn pair_at(pairs: &[u32], i: usize) -> Option<(u16, i16)>
+    ensures { result ≡ pair_at pairs.now i }
+{
+    let (pairs, _) = pairs.as_chunks::<2>();
+    let pair = pairs.get(i)?;
+    pair_in(pair)
+}
+
+// Whether two words are a pair.
+fn is_pair(words: &[u32; 2]) -> bool
+    ensures { result ≡ is_some (pair_in (slice_index words.now 0) (slice_index words.now 1)) }
+{
+    pair_in(words).is_some()
+}
+
+// Whether each two words are a pair.
+fn all_pairs(pairs: &[[u32; 2]]) -> bool
+    ensures { result ≡ list_all (λ p. is_some (pair_in (slice_index p 0) (slice_index p 1))) pairs.now }
+{
+    pairs.iter().all(is_pair)
+}
+
+// Whether words are pairs, one after another.
+fn pairs_good(words: &[u32]) -> bool
+    ensures { result ≡ pairs_good words.now }
+{
+    let (pairs, rest) = words.as_chunks();
+    rest.is_empty() && all_pairs(pairs)
+}
+
+// Whether words are the pairs of a prewrite, 1 to 64 of them.
+pub(crate) fn can_be_prewritten(words: &[u32]) -> bool
+    ensures { result ≡ (count_good (length words.now / 2) && pairs_good words.now) }
+{
+    (1..=64).contains(&(words.len() / 2)) && pairs_good(words)
+}
