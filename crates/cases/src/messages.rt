@@ -5,34 +5,28 @@ use wire::message::{Message, pair_at};
 use wire::refusal::Refusal;
 
 // Reads words that begin with no message.
-fn refused(rt: &impl Abort, words: &[u32]) -> Result<(), Fail> {
+fn refused(rt: &impl Abort, words: &[u32]) {
     let (message, passed) = Message::read(words);
+    assert_eq!(rt; message, Err(Refusal::Malformed));
     assert_eq!(rt; passed, words.len().min(1));
-    match message {
-        Err(refusal) => {
-            assert_eq!(rt; refusal, Refusal::Malformed);
-            Ok(())
-        },
-        Ok(_) => Err(Fail::new("it was read")),
-    }
 }
 
 #[test]
-fn each_bad_form_is_refused(rt: HostRuntime) -> Result<(), Fail> {
-    refused(&rt, &[])?;
-    refused(&rt, &[0x0001_0000])?;
-    refused(&rt, &[0x8000_0000, 0x1001_0000])?;
-    refused(&rt, &[0xF000_0000])?;
-    refused(&rt, &[0x1001_0001])?;
-    refused(&rt, &[0x5001_0001])?;
-    refused(&rt, &[0x6001_8000])?;
-    refused(&rt, &[0x3001_0000])?;
-    refused(&rt, &[0x3001_0001])?;
-    refused(&rt, &[0x3001_0001, 0x8000_0000])?;
-    refused(&rt, &[0x3001_0001, 0x9000_0000, 0x9000_0000])?;
-    refused(&rt, &[0x3001_0001, 0x8001_0000, 0x9000_0000])?;
-    refused(&rt, &[0x3001_0001, 0x8000_0000, 0x8000_0000])?;
-    refused(&rt, &[0x3001_0001, 0x8000_0000, 0x9800_0000])
+fn each_bad_form_is_refused(rt: HostRuntime) {
+    refused(&rt, &[]);
+    refused(&rt, &[0x0001_0000]);
+    refused(&rt, &[0x8000_0000, 0x1001_0000]);
+    refused(&rt, &[0xF000_0000]);
+    refused(&rt, &[0x1001_0001]);
+    refused(&rt, &[0x5001_0001]);
+    refused(&rt, &[0x6001_8000]);
+    refused(&rt, &[0x3001_0000]);
+    refused(&rt, &[0x3001_0001]);
+    refused(&rt, &[0x3001_0001, 0x8000_0000]);
+    refused(&rt, &[0x3001_0001, 0x9000_0000, 0x9000_0000]);
+    refused(&rt, &[0x3001_0001, 0x8001_0000, 0x9000_0000]);
+    refused(&rt, &[0x3001_0001, 0x8000_0000, 0x8000_0000]);
+    refused(&rt, &[0x3001_0001, 0x8000_0000, 0x9800_0000]);
 }
 
 // A prewrite head that claims `count` pairs, and 65 good pairs after it.
@@ -48,7 +42,7 @@ fn prewrite_of(heap: Global, count: u32) -> Result<Vec<u32>, AllocError> {
 
 #[test]
 fn a_prewrite_has_64_pairs_at_most(rt: HostRuntime) -> Result<(), Fail> {
-    refused(&rt, prewrite_of(rt.alloc(), 65)?.as_slice())?;
+    refused(&rt, prewrite_of(rt.alloc(), 65)?.as_slice());
     reads_and_writes(&rt, prewrite_of(rt.alloc(), 64)?.as_slice(), 129)
 }
 

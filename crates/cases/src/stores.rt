@@ -39,6 +39,14 @@ fn at(cause: Cause, line: usize) -> Result<(), Fault> {
 }
 
 #[test]
+fn a_cell_is_three_words(rt: HostRuntime) {
+    let words = [0x9000_FFEC, W + 3, R + 5];
+    assert_eq!(rt; <[u32; 3]>::from(cell(-20)), words);
+    assert_eq!(rt; Cell::try_from(words), Ok(cell(-20)));
+    assert_eq!(rt; Cell::try_from([V, R, W]), Err(Cause::WrongKind));
+}
+
+#[test]
 fn each_fault_of_a_flat_store(rt: HostRuntime) -> Result<(), Fail> {
     assert_eq!(rt; check_flat(7, &[V, W, R, V, W, R]), Ok(()));
     assert_eq!(rt; check_flat(0, &[V, W, R, V]), whole(Cause::PartLine));

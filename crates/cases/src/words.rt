@@ -53,6 +53,7 @@ fn keys_have_three_parts(rt: HostRuntime) -> Result<(), Fail> {
 fn stamps_end_at_top(rt: HostRuntime) -> Result<(), Fail> {
     let top = Stamp::new(TOP).ok_or("TOP is a stamp")?;
     assert_eq!(rt; Stamp::new(TOP + 1), None);
+    assert_eq!(rt; top.bound(), 268_435_455);
     assert_eq!(rt; top.above(), 268_435_456);
     assert_eq!(rt; Stamp::in_word(0).below(), -1);
     assert_eq!(rt; Stamp::from_bound(268_435_455), Some(top));

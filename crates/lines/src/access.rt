@@ -32,7 +32,7 @@ impl AccessKey {
 }
 
 // A cell that a transaction read: the value and the write stamp that it saw.
-// A line has the parts of its key as fields of its own, since most of what is asked of a line is about one of the two.
+// The parts of its key are fields of their own, since the definitions of the calls name a line's key and its transaction each alone.
 #[derive(Clone, Copy, PartialEq, Eq, Debug)]
 pub struct ReadLine {
     pub transaction: u32,
@@ -42,7 +42,7 @@ pub struct ReadLine {
 }
 
 // A cell that a transaction will write, with the value.
-// It is no instance of one generic line, which would give it a stamp seen that means nothing.
+// One generic line for both would add a parameter for the one field in which they differ.
 #[derive(Clone, Copy, PartialEq, Eq, Debug)]
 pub struct WriteLine {
     pub transaction: u32,

@@ -86,7 +86,7 @@ impl Row {
             (State::Running, Event::Fail) => self.state = State::Aborted,
             (State::Running | State::Validated, Event::Abort) => self.state = State::Aborted,
             (State::Validated, Event::Commit { stamp }) => {
-                let bound = stamp.number() as i32;
+                let bound = stamp.bound();
                 self.state = State::Committed;
                 self.lower = bound;
                 self.upper = bound;

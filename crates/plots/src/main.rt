@@ -37,13 +37,11 @@ impl Counts {
 // The counts, and how many of the plots' fields are missing.
 impl fmt::Display for Counts {
     fn fmt<W: fmt::Write>(&self, f: &mut fmt::Formatter<W>) -> fmt::Result {
-        let grounds = self.grounds;
-        let plots = self.plots;
-        let fields = self.fields;
-        let missing = plots.saturating_mul(4).saturating_sub(fields);
+        let missing = self.plots.saturating_mul(4).saturating_sub(self.fields);
         write!(
             f,
-            "plots {plots}, grounds {grounds}, fields {fields}, missing {missing}"
+            "plots {}, grounds {}, fields {}, missing {missing}",
+            self.plots, self.grounds, self.fields
         )
     }
 }

@@ -3,7 +3,7 @@
 --   shown_at      the marks at a row's place are those of the row
 --   longer        a list with at most one value more
 --   gather_more   the bound of the next row is gathered, if it is marked
-use Rattle.std.proofs.Common.{◌≡◌, ℕ, ◌+◌, ◌<◌, ◌≤◌, Bool, true, false, cond, List, [], ◌∷◌, ◌++◌, map, length, get_or, take, ℤ, pos, filter, sym, refl, ap, ◌∙◌, length-append, arith}
+use Rattle.std.proofs.Common.{◌≡◌, ℕ, ◌+◌, ◌<◌, ◌≤◌, Bool, true, false, cond, List, [], ◌∷◌, ◌++◌, map, length, get_or, take, ℤ, pos, filter, sym, ap, ◌∙◌, length-append, arith}
 use Rattle.std.proofs.lemmas.List.Elements.{filter_more}
 use Rattle.std.proofs.lemmas.List.{get_or-map, get_or-take, map-append}
 use Rattle.lines.specs.declared.row.Row.{Row}
@@ -28,8 +28,7 @@ module _ (p : Row → Marks) (rows : List Row) (marks : List Marks) (is : take (
 
   module _ (on : Marks → Bool) (f : Row → ℤ) where
     one : (b : Bool) (r : Row) → map f (cond b (r ∷ []) []) ≡ cond b (f r ∷ []) []
-    one true r = refl
-    one false r = refl
+    one b r = grind arith
 
     -- The bound of the next row is gathered, if it is marked.
     pub gather_more : (out : List ℤ) (i : ℕ) (d : Row) → i < length rows

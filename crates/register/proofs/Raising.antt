@@ -6,9 +6,9 @@
 --   above_reads_is, above_writes_is what is left above all that reads give, or writes
 --   raised_floors                   above what the reads give, then the writes, then the notes
 --   upper_left                      reads and writes leave the upper bound
-use Rattle.std.proofs.Common.{◌≡◌, ℕ, Bool, true, false, cond, List, [], ◌∷◌, ◌++◌, ℤ, pos, ◌≤ℤ◌, Some, None, fold, filter, Option, sym, refl, ap, ◌∙◌, arith}
+use Rattle.std.proofs.Common.{◌≡◌, ℕ, Bool, cond, List, [], ◌∷◌, ◌++◌, ℤ, pos, ◌≤ℤ◌, Some, fold, filter, Option, sym, refl, ap, ◌∙◌, arith}
 use Rattle.std.proofs.lemmas.Int.{ints, clamps}
-use Rattle.std.specs.List.{flat_map, filter_map, cons_option}
+use Rattle.std.specs.List.{flat_map, filter_map}
 use Rattle.store.specs.Stores.{Cells}
 use Rattle.store.specs.declared.cell.Cell.{Cell}
 use Rattle.lines.specs.declared.access.ReadLine.{ReadLine}
@@ -62,23 +62,13 @@ above_each floor r (x ∷ xs) =
 floors_kept : {X : Type 0} (p : X → Bool) (floor : X → List ℤ) (xs : List X)
     → flat_map floor (filter p xs) ≡ flat_map (λ x. cond (p x) (floor x) []) xs
 floors_kept p floor [] = refl
-floors_kept p floor (x ∷ xs) = go (p x) (floors_kept p floor xs)
-  where
-    go : (b : Bool) → flat_map floor (filter p xs) ≡ flat_map (λ x. cond (p x) (floor x) []) xs
-        → flat_map floor (cond b (x ∷ filter p xs) (filter p xs)) ≡ cond b (floor x) [] ++ flat_map (λ x. cond (p x) (floor x) []) xs
-    go true later = ap (λ ys. floor x ++ ys) later
-    go false later = later
+floors_kept p floor (x ∷ xs) = let later = floors_kept p floor xs in grind arith
 
 -- A line without a cell gives nothing.
 floors_found : {X : Type 0} (cell : X → Option Cell) (xs : List X)
     → flat_map (λ c. stamps_of (Some c)) (filter_map cell xs) ≡ flat_map (λ x. stamps_of (cell x)) xs
 floors_found cell [] = refl
-floors_found cell (x ∷ xs) = go (cell x) (floors_found cell xs)
-  where
-    go : (o : Option Cell) → flat_map (λ c. stamps_of (Some c)) (filter_map cell xs) ≡ flat_map (λ x. stamps_of (cell x)) xs
-        → flat_map (λ c. stamps_of (Some c)) (cons_option o (filter_map cell xs)) ≡ stamps_of o ++ flat_map (λ x. stamps_of (cell x)) xs
-    go None later = later
-    go (Some c) later = ap (λ ys. stamps_of (Some c) ++ ys) later
+floors_found cell (x ∷ xs) = let later = floors_found cell xs in grind arith
 
 module _ (t g : ℕ) (r : Range) where
   -- Line by line, reads leave what lies above all that they give.

@@ -6,7 +6,7 @@
 --   sound_added       of rows and the first row of a transaction at a ground
 --   sound_replaced    of rows one of which is replaced by another of its key
 --   sound_set         of rows one of which is replaced, at its place, by another of its key
-use Rattle.std.proofs.Common.{◌≡◌, ℕ, ◌≤◌, Bool, true, false, cond, eqb, ℤ, ◌≤ℤ◌, List, [], ◌∷◌, ◌++◌, map, length, get_or, set, IfSome, Some, None, sym, refl, ap, ◌∙◌, subst, arith}
+use Rattle.std.proofs.Common.{◌≡◌, ℕ, ◌≤◌, Bool, true, false, cond, eqb, ℤ, ◌≤ℤ◌, List, [], ◌∷◌, ◌++◌, map, length, get_or, set, IfSome, Some, None, sym, refl, subst, arith}
 use mathlib.Core.HLevel.{×_prop}
 use mathlib.Core.Logic.{∥∥₁_elim}
 use Rattle.std.proofs.Props.{props}
@@ -57,11 +57,7 @@ few_held b n h = let k = length-take b.count (memory b) in omega arith
 
 pub bounded_row : (rs : List Row) (t g : ℕ) → AllByRecursion Bounded rs → IfSome (row_of rs t g) Bounded
 bounded_row [] t g h = tt
-bounded_row (r ∷ rs) t g h = go (same_row (row_key r) (record { transaction = t; ground = g })) (bounded_row rs t g h.1)
-  where
-    go : (b : Bool) → IfSome (row_of rs t g) Bounded → IfSome (cond b (Some r) (row_of rs t g)) Bounded
-    go true later = h.0
-    go false later = later
+bounded_row (r ∷ rs) t g h = let later = bounded_row rs t g h.1 in grind arith
 
 pub no_rows_sound : SoundRows []
 unfolding IsDistinct
@@ -113,21 +109,14 @@ module _ (k : RowKey) (x : Row) (own : row_key x ≡ k) where
   -- A row is replaced by another of its key.
   keys_replaced : (rs : List Row) → map row_key rs ≡ map row_key (replaced same_row row_key k x rs)
   keys_replaced [] = refl
-  keys_replaced (r ∷ rs) = go (same_row (row_key r) k) refl (keys_replaced rs)
-    where
-      go : (b : Bool) → same_row (row_key r) k ≡ b → map row_key rs ≡ map row_key (replaced same_row row_key k x rs)
-          → row_key r ∷ map row_key rs ≡ map row_key (cond b (x ∷ rs) (r ∷ replaced same_row row_key k x rs))
-      go true s later = ap (λ j. j ∷ map row_key rs) (same_row_equal (row_key r) k s ∙ sym own)
-      go false s later = ap (λ js. row_key r ∷ js) later
+  keys_replaced (r ∷ rs) =
+      let later = keys_replaced rs in
+      let same = same_row_equal (row_key r) k in
+      grind arith
 
   bounded_replaced : (rs : List Row) → Bounded x → AllByRecursion Bounded rs → AllByRecursion Bounded (replaced same_row row_key k x rs)
   bounded_replaced [] h hs = tt
-  bounded_replaced (r ∷ rs) h hs = go (same_row (row_key r) k) (bounded_replaced rs h hs.1)
-    where
-      go : (b : Bool) → AllByRecursion Bounded (replaced same_row row_key k x rs)
-          → AllByRecursion Bounded (cond b (x ∷ rs) (r ∷ replaced same_row row_key k x rs))
-      go true later = (h, hs.1)
-      go false later = (hs.0, later)
+  bounded_replaced (r ∷ rs) h hs = let later = bounded_replaced rs h hs.1 in grind arith
 
   pub sound_replaced : (rs : List Row) → Bounded x → SoundRows rs → SoundRows (replaced same_row row_key k x rs)
   sound_replaced rs h s = record {

@@ -1,14 +1,22 @@
--- Where a row is, in a list of rows of which no two have the same key.
---   only_place    the row at the place found is the only one with the key
-use Rattle.std.proofs.Common.{◌≡◌, ℕ, zero, suc, ◌+◌, ◌<◌, ◌≤◌, Bool, true, false, cond, eqb, List, [], ◌∷◌, map, length, get_or, Some, sym, refl, ap, ◌∙◌, arith}
+-- Where a row is, in a list of rows.
+--   row_at        the row that is found is the one at its place
+--   only_place    where no two rows have the same key, it is the only one with the key
+use Rattle.std.proofs.Common.{◌≡◌, ℕ, zero, suc, ◌+◌, ◌<◌, ◌≤◌, Bool, true, false, cond, eqb, List, [], ◌∷◌, map, length, get_or, Some, Option, sym, refl, ap, ◌∙◌, arith}
 use Rattle.std.proofs.lemmas.Bool.{ne_eqb, eq-eqb}
 use Rattle.std.proofs.lemmas.Bool.Decides.{nat_tests}
 use Rattle.std.specs.List.{AllByRecursion, IsDistinct}
 use Rattle.wire.proofs.Clash.{clash}
+use Rattle.book.proofs.Books.{line_at, line_at_place}
 use Rattle.book.specs.Books.{place_from}
 use Rattle.lines.specs.LineKeys.{row_key, same_row}
+use Rattle.lines.specs.Locks.{row_of}
 use Rattle.lines.specs.declared.row.Row.{Row}
 use Rattle.lines.specs.declared.row.RowKey.{RowKey}
+use Rattle.register.specs.Findings.{place_of}
+
+-- The row that is found is the one at its place.
+pub row_at : (rows : List Row) (t g : ℕ) (i : Option ℕ) → place_of rows t g ≡ i → row_of rows t g ≡ line_at rows i
+row_at rows t g i e = sym (line_at_place same_row row_key _ rows) ∙ ap (line_at rows) e
 
 -- A key that none of the rows has is not that of any one of them.
 apart_at : (k : RowKey) (rows : List Row) → AllByRecursion (λ j. same_row k j ≡ false) (map row_key rows) → (i : ℕ) (d : Row) → i < length rows

@@ -3,12 +3,11 @@
 --   validate_fails, validate_passes  what a validation comes to where no stamp is left, and where one is
 --   with_rows_is                     a register with other rows in a book of the same room
 --   taken_limits                     the range that was taken is within the limits of a row
-use Rattle.std.proofs.Common.{◌≡◌, ℕ, Bool, true, false, cond, eqb, List, [], ◌∷◌, ℤ, ◌≤ℤ◌, Some, None, Ok, sym, refl, ap, ◌∙◌, ap₂, arith, w32, SFits, to_z, of_z}
+use Rattle.std.proofs.Common.{◌≡◌, ℕ, Bool, true, false, List, [], ◌∷◌, ℤ, ◌≤ℤ◌, Some, None, Ok, sym, refl, ◌∙◌, ap₂, arith, w32, SFits, to_z, of_z}
 use Rattle.std.specs.Prelude.{int_lt}
 use Rattle.std.proofs.lemmas.Int.{ints, to_z-of_z}
-use Rattle.std.proofs.lemmas.Bool.{and_parts, eqb-true}
+use Rattle.std.proofs.lemmas.Bool.Decides.{nat_tests}
 use Rattle.wire.proofs.Clash.{clash}
-use Rattle.lines.specs.LineKeys.{row_key, same_row}
 use Rattle.lines.specs.Locks.{row_of}
 use Rattle.lines.specs.Rows.{Bounded, Limits}
 use Rattle.lines.specs.declared.row.Row.{Row}
@@ -22,15 +21,7 @@ use Rattle.register.proofs.Raising.{raised_least, lowered_most}
 -- A row that is found is of the transaction and ground that it was sought by.
 row_owner : (rs : List Row) (t g : ℕ) (r : Row) → row_of rs t g ≡ Some r → (r.transaction ≡ t) × (r.ground ≡ g)
 row_owner [] t g r e = clash cc
-row_owner (x ∷ xs) t g r e = go (same_row (row_key x) (record { transaction = t; ground = g })) refl e (row_owner xs t g r)
-  where
-    go : (b : Bool) → same_row (row_key x) (record { transaction = t; ground = g }) ≡ b → cond b (Some x) (row_of xs t g) ≡ Some r
-        → (row_of xs t g ≡ Some r → (r.transaction ≡ t) × (r.ground ≡ g)) → (r.transaction ≡ t) × (r.ground ≡ g)
-    go true s q later =
-        let i : x ≡ r = cc in
-        let p = and_parts (eqb x.transaction t) _ s in
-        (ap (λ y. y.transaction) (sym i) ∙ eqb-true _ _ p.0, ap (λ y. y.ground) (sym i) ∙ eqb-true _ _ p.1)
-    go false s q later = later q
+row_owner (x ∷ xs) t g r e = let later = row_owner xs t g r in grind (arith, nat_tests)
 
 -- Bounds are compared as they were found.
 pub found : (l u : ℤ) (b : Bool) → SFits w32 l → SFits w32 u → int_lt (to_z w32 (of_z w32 u)) (to_z w32 (of_z w32 l)) ≡ b → int_lt u l ≡ b
@@ -62,36 +53,8 @@ module _ (P : Chooses) (m : Model) (t g : ℕ) (r : Row) (x y : Unit) (begun : o
       ∙ sym (rw (begun, at, run, low_here, high_here, e, chosen) refl)
 
 pub with_rows_is : (m : Model) (rs xs : List Row) (n : ℕ) → rs ≡ xs → n ≡ m.rooms.rows
-    → record {
-      cells = m.cells;
-      transactions = m.transactions;
-      rows = rs;
-      reads = m.reads;
-      writes = m.writes;
-      notes = m.notes;
-      rooms = record {
-        transactions = m.rooms.transactions;
-        rows = n;
-        reads = m.rooms.reads;
-        writes = m.rooms.writes;
-        notes = m.rooms.notes;
-      };
-    } ≡ with_rows m xs
-with_rows_is m rs xs n e d i = record {
-  cells = m.cells;
-  transactions = m.transactions;
-  rows = e i;
-  reads = m.reads;
-  writes = m.writes;
-  notes = m.notes;
-  rooms = record {
-    transactions = m.rooms.transactions;
-    rows = d i;
-    reads = m.rooms.reads;
-    writes = m.rooms.writes;
-    notes = m.rooms.notes;
-  };
-}
+    → record m { rows = rs; rooms = record m.rooms { rows = n } } ≡ with_rows m xs
+with_rows_is m rs xs n e d = rw (e, d) refl
 
 -- What a policy takes of a range that is not empty is within the limits of a row.
 pub taken_limits : (r : Row) (l u : ℤ) (xs ys : List ℤ) (range : ℤ × ℤ) → Bounded r → l ≡ raised_above r.lower xs

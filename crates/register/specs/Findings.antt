@@ -6,6 +6,7 @@
 --   with_any i e f         the same where there may be no effect
 --   FitsEffect e           the bound of the effect e is one that a row can have
 --   place_of rows t g      the place of the row of transaction t at ground g, or nothing
+--   Placed rows t g r      r is the row of transaction t at ground g with its place, or nothing
 --   noted rows t g f n     the findings f with what follows from the note n
 --   marks_among            which of the two lists some note puts a row on
 --   Marked rows notes t g f   the marks of f are those of the rows that the notes put on the before list and on the after list
@@ -15,6 +16,7 @@ use Rattle.std.specs.Prelude.{◌≡◌, ℕ, ◌<◌, true, false, List, map, l
 use Rattle.std.specs.Option.{unwrap_or}
 use Rattle.book.specs.Books.{place}
 use Rattle.lines.specs.LineKeys.{row_key, same_row}
+use Rattle.lines.specs.Locks.{row_of}
 use Rattle.lines.specs.declared.note.Effect.{Effect}
 use Rattle.lines.specs.declared.note.Effect.TheVariants.{LowerBelow, RaiseAbove, JoinBefore, JoinAfter}
 use Rattle.lines.specs.declared.note.Note.{Note}
@@ -56,6 +58,11 @@ FitsEffect JoinAfter = Unit {0}
 -- The place of the first row of a transaction at a ground.
 abbrev pub place_of : List Row → (transaction ground : ℕ) → Option ℕ
 place_of rows t g = place same_row row_key (record { transaction = t; ground = g }) rows
+
+-- The row of a transaction at a ground, with its place.
+abbrev pub Placed : List Row → (transaction ground : ℕ) → Option (ℕ × Row) → Type 0
+Placed rows t g None = row_of rows t g ≡ None
+Placed rows t g (Some p) = (p.0 < length rows) × (place_of rows t g ≡ Some p.0) × (row_of rows t g ≡ Some p.1)
 
 -- What follows from a note, if anything does, is added.
 abbrev pub with_any : ℕ → Option Effect → Findings → Findings

@@ -2,7 +2,8 @@ ghost use Rattle.std.specs.Prelude.{◌≡◌, ◌<◌, ◌≤◌, List, [], ◌
 
 use std::marker::Model;
 
-// A list of at most N values, in an array, since no call may allocate. What a call works out is gathered here.
+// A list of at most N values. What a call works out is gathered here.
+// It lies in an array, since no call may allocate, and is no library's list, since one more crate would have to be trusted.
 #[derive(Drop)]
 pub struct Gathered<T, const N: usize> {
     values: [T; N],

@@ -18,11 +18,11 @@ pub struct RowBook<'a> {
 }
 
 impl<'a> RowBook<'a> {
-    ghost use Rattle.std.specs.Prelude.{◌≡◌, ◌<◌, min, [], length, IfSome};
-    ghost use Rattle.book.specs.Books.{held, room, memory, nth, Stays};
+    ghost use Rattle.std.specs.Prelude.{◌≡◌, min, [], length, IfSome};
+    ghost use Rattle.book.specs.Books.{held, room, memory, Stays};
     ghost use Rattle.lines.specs.Locks.{row_of};
     ghost use Rattle.lines.specs.Rows.{Bounded, FitsEvent};
-    ghost use Rattle.register.specs.Findings.{place_of};
+    ghost use Rattle.register.specs.Findings.{Placed};
     ghost use Rattle.register.specs.Validation.{row_moved};
 
     // No rows. The memory stays as it is.
@@ -51,6 +51,15 @@ impl<'a> RowBook<'a> {
         ensures bounded { IfSome result Bounded }
     {
         self.book.find(key)
+    }
+
+    // That row with its place in the book, or nothing.
+    pub fn locate(&self, key: RowKey) -> Option<(usize, Row)>
+        ensures { Placed (held self.now.book) key.transaction key.ground result }
+    {
+        let place = self.book.search(key)?;
+        let row = self.book.get(place)?;
+        Some((place, row))
     }
 
     // Moves a row by an event, and writes it into its place.

@@ -4,6 +4,5 @@
 mod effects;
 pub mod findings;
 pub mod floors;
-mod moving;
 pub mod neighbours;
 mod pushing;

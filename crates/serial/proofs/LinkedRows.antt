@@ -14,7 +14,6 @@ use Rattle.lines.specs.Rows.{moved}
 use Rattle.lines.specs.declared.note.Effect.{Effect}
 use Rattle.lines.specs.declared.note.Note.{Note}
 use Rattle.lines.specs.declared.note.Side.{Side}
-use Rattle.lines.specs.declared.note.Side.TheVariants.{Earlier, Later, Apart}
 use Rattle.lines.specs.declared.row.Event.{Event}
 use Rattle.lines.specs.declared.row.Row.{Row}
 use Rattle.lines.specs.declared.row.State.{State}

@@ -1,10 +1,12 @@
 -- Lines in memory.
 --   cell_at ws p           the cell in the three words at index p
 --   with_cell_at ws p x    the memory with the words of the cell x at index p
+--   cell_held ws           what the three words ws hold: a cell, or what is wrong with them
+--   IsWordsOf x ws         the three words ws are those of the cell x
 --   width l, most l        how many words a line of a layout has, and how many lines a store of it at most
 --   line_cause l ws i      what is wrong with line i, if anything
 --   shape_cause l ws       what is wrong with the length of memory, if anything
-use Rattle.std.specs.Prelude.{ℕ, ◌+◌, ◌-◌, ◌*◌, ◌/◌, ◌%◌, cond, ◌||◌, List, length, Some, None, Option, ◌==◌, nat_le, nat_lt, slice_index, slice_set}
+use Rattle.std.specs.Prelude.{◌≡◌, ℕ, ◌+◌, ◌-◌, ◌*◌, ◌/◌, ◌%◌, cond, ◌||◌, List, [], ◌∷◌, length, Some, None, Ok, Err, Option, Result, ◌==◌, nat_le, nat_lt, slice_index, slice_set}
 use Rattle.wire.specs.Stamps.{stamp}
 use Rattle.wire.specs.Values.{value_of}
 use Rattle.wire.specs.declared.word.StampKind.TheVariants.{Write, Read}
@@ -38,6 +40,21 @@ cell_cause ws p =
     or_else (cause_in (value_in (slice_index ws p)))
     (or_else (cause_in (stamp_in Write (slice_index ws (p + 1))))
     (cause_in (stamp_in Read (slice_index ws (p + 2)))))
+
+-- A cell, unless something is wrong.
+abbrev pub unless : Option Cause → Cell → Result Cell Cause
+unless None x = Ok x
+unless (Some c) x = Err c
+
+-- What three words hold: their cell, or what is wrong with them, the first word first.
+abbrev pub cell_held : List ℕ → Result Cell Cause
+cell_held ws = unless (cell_cause ws 0) (cell_at ws 0)
+
+-- The three words of a cell: those of its value and its stamps, in which it is found again with nothing wrong.
+pub record IsWordsOf (x : Cell) (ws : List ℕ) : Type 0 where
+  pub words : ws ≡ value_word x.value ∷ stamp_word Write x.write ∷ stamp_word Read x.read ∷ []
+  pub cell : cell_at ws 0 ≡ x
+  pub sound : cell_cause ws 0 ≡ None
 
 -- The words of a line: three of a cell, or four with its key first.
 abbrev pub width : Layout → ℕ

@@ -26,7 +26,7 @@ pub struct Fault {
 }
 
 impl Cause {
-    // The cause as a text.
+    // The cause as a text, for whoever has no formatter.
     pub fn text(self) -> &'static str
         ensures { result.now ≡ cause_text self }
     {
@@ -85,10 +85,9 @@ impl fmt::Display for Fault {
     ghost output = { λ f. Some (fault_text f) };
 
     fn fmt<W: fmt::Write>(&self, f: &mut fmt::Formatter<W>) -> fmt::Result {
-        let cause = self.cause;
         match self.line {
-            Some(line) => write!(f, "{cause}, line {line} (the first is 0)"),
-            None => write!(f, "{cause}"),
+            Some(line) => write!(f, "{}, line {line} (the first is 0)", self.cause),
+            None => write!(f, "{}", self.cause),
         }
     }
 }

@@ -1,4 +1,5 @@
 ghost use Rattle.std.specs.Prelude.{◌≡◌, ℕ, ◌+◌, ◌<◌, List, Option, length, None};
+ghost use Rattle.store.specs.declared.cell.Cell.{Cell};
 ghost use Rattle.store.specs.declared.fault.Cause.{Cause};
 ghost use Rattle.store.specs.Faults.{checked};
 ghost use Rattle.store.specs.Memory.{Bare, Keyed, cell_at, cell_cause, most, shape_of, with_cell_at};
@@ -6,13 +7,13 @@ ghost use Rattle.store.specs.Lines.{bare_cause, keyed_cause, first_of};
 
 use crate::cell::Cell;
 use crate::fault::{Cause, Fault};
-use wire::word::{StampKind, key_in, stamp_in, value_in};
+use wire::word::{key_in, low_of};
 
 pub mod flat;
 pub mod sparse;
 
 // A line of a store, as an array of its words.
-trait Line: Copy {
+trait StoredLine: Copy {
     // What is wrong first with a line that comes after another, if any.
     ghost cause: { Option Self → Self → Option Cause };
 
@@ -21,35 +22,47 @@ trait Line: Copy {
 
     const MOST: usize;
 
-    // Answers what is wrong first.
+    // The cell of a good line.
+    ghost cell_of: { Self → Cell };
+
+    // That nothing is wrong, or what is wrong first.
     fn check(self, before: Option<Self>) -> Result<(), Cause>
         ensures { result ≡ checked (cause before self) };
+
+    // The cell, whatever else the line's words say.
+    fn cell(self) -> Cell
+        ensures { result ≡ cell_of self };
 }
 
 // Three words are a cell alone.
-impl Line for [u32; 3] {
+impl StoredLine for [u32; 3] {
     ghost cause = { bare_cause };
 
     ghost MOST = { most Bare };
+
+    ghost cell_of = { λ x. cell_at x 0 };
 
     const MOST: usize = 8192;
 
     fn check(self, _before: Option<Self>) -> Result<(), Cause>
         ensures { result ≡ checked (bare_cause _before self) }
     {
-        let [value, write, read] = self;
-        value_in(value)?;
-        stamp_in(StampKind::Write, write)?;
-        stamp_in(StampKind::Read, read)?;
+        Cell::try_from(self)?;
         Ok(())
+    }
+
+    fn cell(self) -> Cell {
+        Cell::in_words(self)
     }
 }
 
 // Four words are a key and its cell, and keys rise.
-impl Line for [u32; 4] {
+impl StoredLine for [u32; 4] {
     ghost cause = { keyed_cause };
 
     ghost MOST = { most Keyed };
+
+    ghost cell_of = { λ x. cell_at x 1 };
 
     const MOST: usize = 4096;
 
@@ -57,19 +70,24 @@ impl Line for [u32; 4] {
         ensures { result ≡ checked (keyed_cause before self) }
     {
         let [key, value, write, read] = self;
-        key_in(key)?;
-        [value, write, read].check(None)?;
+        let key = key_in(key)?;
+        Cell::try_from([value, write, read])?;
         if let Some(last) = before
-            && key % 65536 <= last[0] % 65536
+            && key <= low_of(last[0])
         {
             return Err(Cause::KeysNotRising);
         }
         Ok(())
     }
+
+    fn cell(self) -> Cell {
+        let [_, value, write, read] = self;
+        Cell::in_words([value, write, read])
+    }
 }
 
-// What is wrong with the length of memory that has these lines, and a rest that is none.
-fn check_shape<L: Line>(lines: &[L], rest: &[u32]) -> Result<(), Cause>
+// That memory of these lines and this rest has a good length, or what is wrong with it.
+fn check_shape<L: StoredLine>(lines: &[L], rest: &[u32]) -> Result<(), Cause>
     ensures { result ≡ checked (shape_of L.MOST (length lines.now) (length rest.now)) }
 {
     if !rest.is_empty() {
@@ -81,8 +99,8 @@ fn check_shape<L: Line>(lines: &[L], rest: &[u32]) -> Result<(), Cause>
     }
 }
 
-// The first fault of the lines.
-fn check_lines<L: Line>(lines: &[L]) -> Result<(), Fault>
+// That all lines are good, or the first fault.
+fn check_lines<L: StoredLine>(lines: &[L]) -> Result<(), Fault>
     ensures { result ≡ checked (first_of L.cause 0 None lines.now) }
 {
     let mut before = None;
@@ -104,5 +122,5 @@ fn put_cell(words: &mut [u32], at: usize, cell: Cell)
     ensures cell { cell_at words.new at ≡ cell }
     ensures sound { cell_cause words.new at ≡ None }
 {
-    words[at..at + 3].copy_from_slice(&cell.words());
+    words[at..at + 3].copy_from_slice(&<[u32; 3]>::from(cell));
 }

@@ -6,6 +6,7 @@ ghost use Rattle.store.specs.Splits.{split_fault, goes_left, cells_of, both_soun
 use crate::cell::Cell;
 use crate::fault::{Cause, Fault};
 use crate::store::Store;
+use wire::place::Place;
 use wire::refusal::Refusal;
 
 // A store of two others: grounds below the boundary are the left one's, the others the right one's.
@@ -16,7 +17,7 @@ pub struct Split<L, R> {
     right: R,
 }
 
-// A boundary lies from 0 to 8, or that it does not is its fault.
+// That a boundary lies from 0 to 8, or the fault that it does not.
 pub fn check_boundary(boundary: u16) -> Result<(), Fault>
     ensures { result ≡ checked (split_fault boundary) }
 {
@@ -44,7 +45,7 @@ impl<L, R> Split<L, R> {
     fn goes_left(&self, key: u16) -> bool
         ensures { result ≡ goes_left self.now key }
     {
-        key / 8192 < self.boundary
+        Place::from(key).burial_ground < self.boundary
     }
 }
 

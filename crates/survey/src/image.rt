@@ -5,7 +5,7 @@ ghost use Rattle.survey.specs.Images.{image_fault};
 use store::fault::{Cause, Fault};
 use store::memory::sparse::check_sparse;
 
-// The first fault, if any, of a sparse store image that was read as words with some bytes left over, which are part of a line.
+// That a sparse store image is good, or its first fault. Bytes that were left over when it was read as words are part of a line.
 pub fn check_image(words: &[u32], left: usize) -> Result<(), Fault>
     ensures { result ≡ checked (image_fault words.now left) }
 {

@@ -14,7 +14,7 @@ pub struct Listing {
     pub plot: Plot,
 }
 
-// An offset, or what stands there where it is missing.
+// An offset, or what stands there where it is missing, in a column of fourteen places.
 fn write_offset<W: fmt::Write>(
     f: &mut fmt::Formatter<W>,
     offset: Option<Offset>,
@@ -24,11 +24,12 @@ fn write_offset<W: fmt::Write>(
 {
     match offset {
         Some(offset) => write!(f, "  {offset}"),
-        None => write!(f, "  {missing}"),
+        None => write!(f, "  {missing:<14}"),
     }
 }
 
 // A number, or that it is missing, in a column of seven places after its name.
+// Like `write_offset` in shape alone: that column has no name and other places.
 fn write_number<W: fmt::Write>(
     f: &mut fmt::Formatter<W>,
     name: &str,
@@ -46,11 +47,9 @@ impl fmt::Display for Listing {
     ghost output = { λ l. Some (listing_text l) };
 
     fn fmt<W: fmt::Write>(&self, f: &mut fmt::Formatter<W>) -> fmt::Result {
-        let ground = self.ground;
-        let number = self.number;
-        write!(f, "ground {ground}  plot {number:>4}")?;
-        write_offset(f, self.plot.east.map(Offset::east), "east missing  ")?;
-        write_offset(f, self.plot.north.map(Offset::north), "north missing ")?;
+        write!(f, "ground {}  plot {:>4}", self.ground, self.number)?;
+        write_offset(f, self.plot.east.map(Offset::east), "east missing")?;
+        write_offset(f, self.plot.north.map(Offset::north), "north missing")?;
         write_number(f, "holder", self.plot.holder)?;
         write_number(f, "status", self.plot.status)
     }

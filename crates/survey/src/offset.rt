@@ -36,9 +36,9 @@ fn tell(value: i16, ahead: Direction, behind: Direction) -> Offset
     }
 }
 
-// Both stay beside tell, by which they are one line each: a listing maps each field by a name, and an axis type would add a word.
 impl Offset {
     // What a value of the field east says: east, or west where it is negative.
+    // East and north are two functions over `tell`, since a type of the two axes would only say their names once more.
     pub fn east(value: i16) -> Offset
         ensures value { result ≡ told East West value }
         ensures back { value_told result ≡ value }
@@ -56,7 +56,7 @@ impl Offset {
 }
 
 impl Direction {
-    // The direction in a word.
+    // The direction in a word, for whoever has no formatter.
     pub fn name(self) -> &'static str
         ensures { result.now ≡ name_of self }
     {
@@ -85,9 +85,10 @@ impl fmt::Display for Offset {
     ghost output = { λ o. Some (offset_text o) };
 
     fn fmt<W: fmt::Write>(&self, f: &mut fmt::Formatter<W>) -> fmt::Result {
-        let metres = self.metres;
-        let decimetres = self.decimetres;
-        let direction = self.direction;
-        write!(f, "{metres:>4}.{decimetres} m {direction:<5}")
+        write!(
+            f,
+            "{:>4}.{} m {:<5}",
+            self.metres, self.decimetres, self.direction
+        )
     }
 }

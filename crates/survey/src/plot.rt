@@ -23,6 +23,7 @@ fn field_value<S: Store>(store: &S, ground: u16, plot: u16, field: Field) -> Opt
 
 impl Plot {
     // The fields of a ground's plot, each where the store has it.
+    // Ground and plot are two numbers, since a type of both would be a `Place` without its field.
     pub fn fetch<S: Store>(store: &S, ground: u16, plot: u16) -> Plot
         ensures { result ≡ plot_in (S.Store.cells store.now) ground plot }
     {

@@ -9,6 +9,7 @@ use crate::stamp::Stamp;
 use crate::word::{StampKind, stamp_word, value_word};
 
 // What a message is answered. `pairs` counts the pairs of a prewrite that stood, and is 0 after any other message.
+// No Result of it, since a refusal has words as every answer has, and after a prewrite tells how many pairs stood.
 #[derive(Clone, Copy, PartialEq, Eq, Debug)]
 pub enum Answer {
     Done { pairs: u8 },
@@ -34,7 +35,7 @@ fn told(stamp: Stamp) -> u32
 }
 
 impl Answer {
-    // The words that say the answer. A method and no From, as a message's words are, of which there may be none.
+    // The words that say the answer. No From, so that it is called as a message's `words` are, which may be none.
     pub fn words(self) -> AnswerWords
         ensures { result.first ∷ option_to_list result.second ≡ answer_words self }
     {

@@ -36,7 +36,7 @@ impl From<Kind> for u32 {
 }
 
 impl Kind {
-    // The kind of a word, or nothing where its number is 0. No TryFrom: a word is more than its kind.
+    // The kind of a word, or nothing where its number is 0. No TryFrom, since it is read off a word and not off its number.
     pub fn of(word: u32) -> Option<Kind>
         ensures { MatchOption result (kind_of word ≡ 0) (λ kind. kind_number kind ≡ kind_of word) }
     {

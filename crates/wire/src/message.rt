@@ -11,8 +11,8 @@ use crate::word::{low_of, middle_of};
 use pairs::can_be_prewritten;
 pub use pairs::pair_at;
 
-// A call as words say it. A prewrite's pairs are a part of the words that it was read from. They are no `[u32; 2]`s,
-// since a value of this type may hold any words.
+// A call as words say it. A prewrite's pairs are a part of the words that it was read from.
+// They are no `[u32; 2]`s, since a value of this type may hold any words.
 #[derive(Clone, Copy, PartialEq, Eq, Debug)]
 pub enum Message<'w> {
     Begin { transaction: u32 },
@@ -81,8 +81,8 @@ fn head_word(kind: Kind, transaction: u32, argument: u16) -> Option<u32>
 }
 
 impl<'w> Message<'w> {
-    // The message that words begin with and how many words it takes; or refusal 12 and how many words are passed over: one, or none of
-    // no words. The count stands beside the result, since a reader of many messages needs it in both cases.
+    // The message that words begin with and how many words it takes; or refusal 12 and how many are passed over, which is one, if any.
+    // The count stands beside the result, since a reader of many messages needs it in both cases.
     pub fn read(words: &'w [u32]) -> (Result<Message<'w>, Refusal>, usize)
         ensures value { ◌≡◌ (said_in result.0, result.1) (reading words.now) }
         ensures bound { result.1 ≤ length words.now }

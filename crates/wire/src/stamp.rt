@@ -34,8 +34,7 @@ impl Stamp {
         }
     }
 
-    // The stamp of a signed bound, or nothing where the bound is -1 or TOP + 1 or beyond. The name, which TryFrom has not, says
-    // that the number is a bound.
+    // The stamp that a bound is, or nothing for one below 0 or above TOP. No TryFrom, since the name says that the number is a bound.
     pub fn from_bound(bound: i32) -> Option<Self>
         ensures { result ≡ stamp_of_bound bound }
     {
@@ -49,19 +48,25 @@ impl Stamp {
         self.number
     }
 
+    // The stamp as a bound, 0 to TOP.
+    pub fn bound(self) -> i32
+        ensures { result ≡ pos self.number }
+    {
+        let Stamp { number } = self;
+        number as i32
+    }
+
     // The lowest bound above the stamp, 1 to TOP + 1.
     pub fn above(self) -> i32
         ensures { result ≡ pos self.number +ℤ pos 1 }
     {
-        let Stamp { number } = self;
-        number as i32 + 1
+        self.bound() + 1
     }
 
-    // The highest bound below the stamp, -1 to TOP - 1.
+    // The highest bound below the stamp, -1 to TOP - 1. It mirrors `above`: one function of both would only take the step.
     pub fn below(self) -> i32
         ensures { result ≡ pos self.number -ℤ pos 1 }
     {
-        let Stamp { number } = self;
-        number as i32 - 1
+        self.bound() - 1
     }
 }

@@ -40,8 +40,8 @@ pub(crate) fn middle_of(word: u32) -> u32
     word / 65536 % 4096
 }
 
-// Bits 15 to 0 of a word: a head's argument, say.
-pub(crate) fn low_of(word: u32) -> u16
+// Bits 15 to 0 of a word: a head's argument, or the key or value that a word holds.
+pub fn low_of(word: u32) -> u16
     ensures { result ≡ low_of word }
 {
     (word % 65536) as u16

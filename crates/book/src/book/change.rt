@@ -17,8 +17,8 @@ impl<'a, L: Copy> Book<'a, L> {
         Ok(())
     }
 
-    // Replaces the line number i and answers true; past the end it answers false and changes nothing. An `Option<()>` would say
-    // as much in more words.
+    // Replaces the line number i and answers true; past the end it answers false and changes nothing.
+    // An `Option<()>` would say as much in more words.
     pub fn set(&mut self, i: usize, line: L) -> bool
         ensures cases { Replaced i line self.old self.new result }
         ensures stays { Stays self.old self.new }

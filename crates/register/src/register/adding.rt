@@ -18,7 +18,7 @@ impl<'a, S: Store, P: Policy> Register<'a, S, P> {
         ensures { one_if result ≡ new_rows (model S.cells self.now) access.transaction access.key }
     {
         let key = access.row_key();
-        match self.row_of(key) {
+        match self.rows.find(key) {
             Some(_) => None,
             None => Some(Row::new(key)),
         }

@@ -1,4 +1,4 @@
-ghost use Rattle.std.specs.Prelude.{◌≡◌, IfSome};
+ghost use Rattle.std.specs.Prelude.{◌≡◌, cond, Ok, Err};
 ghost use Rattle.std.specs.Option.{ok_or};
 ghost use Rattle.wire.specs.declared.refusal.Refusal.TheVariants.{NeverBegun};
 ghost use Rattle.wire.specs.Keys.{ground_of};
@@ -10,7 +10,6 @@ ghost use Rattle.register.specs.Model.{transaction_of};
 ghost use Rattle.register.specs.Registers.{model};
 
 use crate::register::Register;
-use crate::register::deciding::any_running;
 use lines::access::{AccessKey, WriteLine};
 use lines::row::{Row, RowKey, State};
 use lines::transaction::Transaction;
@@ -18,6 +17,13 @@ use policy::policy::Policy;
 use store::cell::Cell;
 use store::store::Store;
 use wire::refusal::Refusal;
+
+// Refuses a call, where what would stand against it holds.
+fn refused_if(stands: bool, refusal: Refusal) -> Result<(), Refusal>
+    ensures { result ≡ cond stands (Err refusal) (Ok tt) }
+{
+    if stands { Err(refusal) } else { Ok(()) }
+}
 
 // Whether a transaction has a write line.
 fn any_write(writes: &[WriteLine], transaction: u32) -> bool
@@ -50,20 +56,16 @@ impl<'a, S: Store, P: Policy> Register<'a, S, P> {
     pub(super) fn open_now(&self, transaction: u32) -> Result<(), Refusal>
         ensures { result ≡ open_now (model S.cells self.now) transaction }
     {
-        match self.line_of(transaction)?.decision {
-            None => Ok(()),
-            Some(_) => Err(Refusal::AlreadyDecided),
-        }
+        let decision = self.line_of(transaction)?.decision;
+        refused_if(decision.is_some(), Refusal::AlreadyDecided)
     }
 
     // That no row of a transaction, at any ground, is Running.
     pub(super) fn none_running(&self, transaction: u32) -> Result<(), Refusal>
         ensures { result ≡ none_running (model S.cells self.now) transaction }
     {
-        if any_running(self.rows.lines(), transaction) {
-            return Err(Refusal::StillRunning);
-        }
-        Ok(())
+        let running = self.rows.any_running(transaction);
+        refused_if(running, Refusal::StillRunning)
     }
 
     // The cell of a key.
@@ -73,19 +75,11 @@ impl<'a, S: Store, P: Policy> Register<'a, S, P> {
         self.store.fetch(key).ok_or(Refusal::NoSuchKey)
     }
 
-    // The row of a transaction at a ground, or nothing.
-    pub(super) fn row_of(&self, key: RowKey) -> Option<Row>
-        ensures row { result ≡ row_of (held self.now.rows.book) key.transaction key.ground }
-        ensures bounded { IfSome result Bounded }
-    {
-        self.rows.find(key)
-    }
-
     // That the transaction has no row yet at the ground of a key, or one that is Running.
     pub(super) fn unless_past(&self, access: AccessKey) -> Result<(), Refusal>
         ensures { result ≡ unless_past (row_of (held self.now.rows.book) access.transaction (ground_of access.key)) }
     {
-        match self.row_of(access.row_key()) {
+        match self.rows.find(access.row_key()) {
             Some(row) => running(&row),
             None => Ok(()),
         }
@@ -95,9 +89,7 @@ impl<'a, S: Store, P: Policy> Register<'a, S, P> {
     pub(super) fn unwritten(&self, transaction: u32) -> Result<(), Refusal>
         ensures { result ≡ unwritten (model S.cells self.now) transaction }
     {
-        if any_write(self.writes.lines(), transaction) {
-            return Err(Refusal::ReadAfterPrewrite);
-        }
-        Ok(())
+        let written = any_write(self.writes.lines(), transaction);
+        refused_if(written, Refusal::ReadAfterPrewrite)
     }
 }

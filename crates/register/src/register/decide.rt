@@ -5,7 +5,6 @@ ghost use Rattle.register.specs.Decisions.{decided_as};
 ghost use Rattle.register.specs.Registers.{model, Keeps, KeepsButTransactions};
 
 use crate::register::Register;
-use crate::register::deciding::decision_by;
 use crate::replacing::replace;
 use lines::transaction::{Decision, Transaction};
 use policy::policy::Policy;
@@ -22,7 +21,7 @@ impl<'a, S: Store, P: Policy> Register<'a, S, P> {
     {
         self.open_now(transaction)?;
         self.none_running(transaction)?;
-        let decision = decision_by(self.rows.lines(), transaction);
+        let decision = self.rows.decision_by(transaction);
         self.set_decision(transaction, decision);
         Ok(decision)
     }

@@ -1,28 +1,14 @@
 ghost use Rattle.std.specs.Prelude.{◌≡◌, filter};
+ghost use Rattle.book.specs.Books.{held};
 ghost use Rattle.register.specs.Checks.{any, is_aborted};
 ghost use Rattle.register.specs.Deciding.{is_own, is_running_own, any_stamp, allowed_with, allowed_by};
 ghost use Rattle.register.specs.Decisions.{decision_in, decision_of};
 
 use crate::range::Range;
+use crate::row_book::RowBook;
 use lines::row::{Row, State};
 use lines::transaction::Decision;
 use wire::stamp::{Stamp, TOP};
-
-// Whether a row of the transaction is Running.
-pub(super) fn any_running(rows: &[Row], transaction: u32) -> bool
-    ensures { result ≡ any (is_running_own transaction) rows.now }
-{
-    rows.iter().any(|row| row.transaction == transaction && matches!(row.state, State::Running))
-}
-
-// Whether a row of the transaction is Aborted.
-fn any_aborted(rows: &[Row], transaction: u32) -> bool
-    ensures { result ≡ any (λ r. is_aborted r.state) (filter (is_own transaction) rows.now) }
-{
-    rows.iter()
-        .filter(|row| row.transaction == transaction)
-        .any(|row| matches!(row.state, State::Aborted))
-}
 
 // What a decision asks of the stamps that rows leave.
 impl Range {
@@ -60,21 +46,44 @@ impl Range {
     }
 }
 
-// The stamps that all rows of the transaction allow.
-fn allowed_by(rows: &[Row], transaction: u32) -> Range
-    ensures { result ≡ allowed_by (filter (is_own transaction) rows.now) }
-{
-    rows.iter()
-        .filter(|row| row.transaction == transaction)
-        .fold(Range::all(), |range, row| range.within(row))
-}
-
-// The decision on the transaction by its rows: one that is Aborted aborts it, else one stamp has to suit all of them.
-pub(super) fn decision_by(rows: &[Row], transaction: u32) -> Decision
-    ensures { result ≡ decision_of (filter (is_own transaction) rows.now) }
-{
-    if any_aborted(rows, transaction) {
-        return Decision::Aborted;
+// What is asked of the rows of a transaction.
+impl<'a> RowBook<'a> {
+    // Whether one is Running.
+    pub fn any_running(&self, transaction: u32) -> bool
+        ensures { result ≡ any (is_running_own transaction) (held self.now.book) }
+    {
+        self.lines().iter().any(|row| row.transaction == transaction
+            && matches!(row.state, State::Running))
     }
-    allowed_by(rows, transaction).decision()
+
+    // Whether one is Aborted.
+    // Beside the other, since a proof about an equal state is longer than these lines.
+    fn any_aborted(&self, transaction: u32) -> bool
+        ensures { result ≡ any (λ r. is_aborted r.state) (filter (is_own transaction) (held self.now.book)) }
+    {
+        self.lines()
+            .iter()
+            .filter(|row| row.transaction == transaction)
+            .any(|row| matches!(row.state, State::Aborted))
+    }
+
+    // The stamps that all of them allow.
+    fn allowed_by(&self, transaction: u32) -> Range
+        ensures { result ≡ allowed_by (filter (is_own transaction) (held self.now.book)) }
+    {
+        self.lines()
+            .iter()
+            .filter(|row| row.transaction == transaction)
+            .fold(Range::all(), |range, row| range.within(row))
+    }
+
+    // The decision by them: one that is Aborted aborts the transaction, else one stamp has to suit all of them.
+    pub fn decision_by(&self, transaction: u32) -> Decision
+        ensures { result ≡ decision_of (filter (is_own transaction) (held self.now.book)) }
+    {
+        if self.any_aborted(transaction) {
+            return Decision::Aborted;
+        }
+        self.allowed_by(transaction).decision()
+    }
 }

@@ -32,6 +32,7 @@ impl<'a, S: Store, P: Policy> Register<'a, S, P> {
             return Ok(());
         }
         let additions = self.additions_of_prewrite(access);
+        // Borrowed first: the checker does not follow a borrow of the book alone through two types with facts.
         let rows = &mut self.rows;
         additions.add_with(line, &mut rows.book, &mut self.writes, &mut self.notes)?;
         Ok(())

@@ -33,6 +33,7 @@ impl<'a, S: Store, P: Policy> Register<'a, S, P> {
             seen: cell.write,
         };
         let additions = self.additions_of_read(access);
+        // Borrowed first: the checker does not follow a borrow of the book alone through two types with facts.
         let rows = &mut self.rows;
         additions.add_with(line, &mut rows.book, &mut self.reads, &mut self.notes)?;
         Ok((cell.value, cell.write))

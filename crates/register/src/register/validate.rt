@@ -56,10 +56,11 @@ impl<'a, S: Store, P: Policy> Register<'a, S, P> {
         ensures rest { KeepsButRows self.old self.new }
     {
         self.open_now(transaction)?;
-        let Some(row) = self.row_of(RowKey {
+        let Some(row) = self.rows.find(RowKey {
             transaction,
             ground,
-        }) else {
+        })
+        else {
             return Err(Refusal::NoRow);
         };
         running(&row)?;

@@ -28,10 +28,10 @@ pub fn located_effect(rows: &RowBook, own: RowKey, note: &Note) -> Option<(usize
         return None;
     }
     let side = note.side(own.transaction)?;
-    let place = rows.book.search(RowKey {
+    let other = RowKey {
         transaction: other_party(note, own.transaction),
         ..own
-    })?;
-    let row = rows.book.get(place)?;
+    };
+    let (place, row) = rows.locate(other)?;
     Some((place, side.effect(&row)?))
 }

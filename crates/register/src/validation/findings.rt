@@ -65,8 +65,10 @@ impl Findings {
 
     // What the notes tell of the transaction at the ground, beginning with the range that its reads and writes leave it.
     pub fn from_notes(range: Range, own: RowKey, notes: &[Note], rows: &RowBook) -> Findings
-        ensures lower { result.range.lower ≡ raised_above range.lower (note_floors (held rows.now.book) notes.now own.transaction own.ground) }
-        ensures upper { result.range.upper ≡ lowered_below range.upper (note_ceilings (held rows.now.book) notes.now own.transaction own.ground) }
+        ensures lower { result.range.lower
+            ≡ raised_above range.lower (note_floors (held rows.now.book) notes.now own.transaction own.ground) }
+        ensures upper { result.range.upper
+            ≡ lowered_below range.upper (note_ceilings (held rows.now.book) notes.now own.transaction own.ground) }
         ensures marked { Marked (held rows.now.book) notes.now own.transaction own.ground result }
     {
         let mut findings = Findings::new(range);

@@ -14,7 +14,7 @@ use wire::stamp::Stamp;
 fn above_stamp(range: Range, stamp: Stamp) -> Range
     ensures { result ≡ above range (pos stamp.number) }
 {
-    range.above(stamp.number() as i32)
+    range.above(stamp.bound())
 }
 
 // What is left of a range above both stamps of a cell.

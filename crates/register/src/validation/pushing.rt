@@ -1,9 +1,10 @@
 ghost use Rattle.std.specs.Prelude.{◌≡◌};
 ghost use Rattle.book.specs.Books.{held, Stays};
-ghost use Rattle.register.specs.Findings.{MadeWay};
+ghost use Rattle.lines.specs.Rows.{Bounded};
+ghost use Rattle.register.specs.Findings.{MadeWay, TookRange};
 ghost use Rattle.register.specs.Among.{pushed_by};
 
-use crate::range::{Taken, lower, raise};
+use crate::range::{Range, Taken};
 use crate::row_book::RowBook;
 use crate::validation::findings::{Findings, Marks};
 use lines::row::Row;
@@ -12,17 +13,16 @@ use lines::row::Row;
 fn push(row: Row, marks: Marks, range: Taken) -> Row
     ensures { result ≡ pushed_by marks.before marks.after (range.lower, range.upper) row }
 {
+    let mut left = Range::of_row(&row);
+    if marks.after {
+        left = left.above(range.upper);
+    }
+    if marks.before {
+        left = left.below(range.lower);
+    }
     Row {
-        lower: if marks.after {
-            raise(row.lower, range.upper)
-        } else {
-            row.lower
-        },
-        upper: if marks.before {
-            lower(row.upper, range.lower)
-        } else {
-            row.upper
-        },
+        lower: left.lower,
+        upper: left.upper,
         ..row
     }
 }
@@ -39,5 +39,15 @@ impl<'a> RowBook<'a> {
                 self.book.set(i, push(row, findings.marks[i], range));
             }
         }
+    }
+
+    // Writes the range that was taken into the row, after the marked rows have made way for it.
+    pub fn take_range(&mut self, row: Row, findings: &Findings, range: Taken)
+        requires { Bounded row }
+        ensures lines { TookRange (held self.old.book) row findings.now (range.lower, range.upper) (held self.new.book) }
+        ensures stays { Stays self.old.book self.new.book }
+    {
+        self.make_way(findings, range);
+        self.move_row(row, range.pass());
     }
 }

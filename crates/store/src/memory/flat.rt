@@ -4,11 +4,13 @@ ghost use Rattle.store.specs.Flats.{flat_fault, flat_line, flat_means};
 
 use crate::cell::Cell;
 use crate::fault::{Cause, Fault};
-use crate::memory::{check_lines, check_shape, put_cell};
+use crate::memory::{StoredLine, check_lines, check_shape, put_cell};
 use crate::store::Store;
+use wire::place::Place;
 use wire::refusal::Refusal;
 
 // One ground's first keys, in memory of three words a cell. Whether it is good is found once, and no call changes it.
+// A type apart from Sparse, since a store of both would take the ground and the rule by which a key finds its line as parameters.
 #[derive(Drop)]
 pub struct Flat<'a> {
     // A flag, since good and bad memory are lent alike; the type says what it tells.
@@ -18,7 +20,7 @@ pub struct Flat<'a> {
     ghost good_is: { good ≡ not (is_some (flat_fault burial_ground words.now)) },
 }
 
-// The first fault of memory as a ground's flat store, if any.
+// That memory is good as a ground's flat store, or its first fault.
 pub fn check_flat(ground: u16, words: &[u32]) -> Result<(), Fault>
     ensures { result ≡ checked (flat_fault ground words.now) }
 {
@@ -48,13 +50,15 @@ impl<'a> Flat<'a> {
         }
     }
 
-    // The line of a key, where it is one of the store's.
+    // The line of a key, where it is one of the store's: its low 13 bits number it among its ground's keys.
     fn line(&self, key: u16) -> Option<usize>
         ensures value { result ≡ flat_line self.now.good self.now.burial_ground self.now.words.now key }
         ensures bound { IfSome result (λ i. i < length self.now.words.now / 3) }
     {
         let i = usize::from(key % 8192);
-        let has = self.good && key / 8192 == self.burial_ground && i < self.words.len() / 3;
+        let has = self.good
+            && Place::from(key).burial_ground == self.burial_ground
+            && i < self.words.len() / 3;
         has.then_some(i)
     }
 }
@@ -71,7 +75,7 @@ impl<'a> Store for Flat<'a> {
     fn fetch(&self, key: u16) -> Option<Cell> {
         let i = self.line(key)?;
         let (lines, _) = self.words.as_chunks::<3>();
-        Some(Cell::in_words(lines[i]))
+        Some(lines[i].cell())
     }
 
     fn put(&mut self, key: u16, cell: Cell) -> Result<(), Refusal> {

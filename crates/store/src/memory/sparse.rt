@@ -4,12 +4,14 @@ ghost use Rattle.store.specs.Sparses.{sparse_fault, sparse_means, named_line};
 
 use crate::cell::Cell;
 use crate::fault::Fault;
-use crate::memory::{check_lines, check_shape, put_cell};
+use crate::memory::{StoredLine, check_lines, check_shape, put_cell};
 use crate::store::Store;
 use wire::refusal::Refusal;
+use wire::word::low_of;
 
-// The keys that its lines name, in memory of four words a line, the key first, keys strictly rising. Whether it is good is found
-// once, and no call changes it.
+// The keys that its lines name, in memory of four words a line, the key first, keys strictly rising.
+// Whether it is good is found once, and no call changes it.
+// A type apart from Flat, since keys find their lines by another rule, and no ground is named.
 #[derive(Drop)]
 pub struct Sparse<'a> {
     // A flag, since good and bad memory are lent alike; the type says what it tells.
@@ -18,7 +20,7 @@ pub struct Sparse<'a> {
     ghost good_is: { good ≡ not (is_some (sparse_fault words.now)) },
 }
 
-// The first fault of memory as a sparse store, if any.
+// That memory is good as a sparse store, or its first fault.
 pub fn check_sparse(words: &[u32]) -> Result<(), Fault>
     ensures { result ≡ checked (sparse_fault words.now) }
 {
@@ -51,7 +53,7 @@ impl<'a> Sparse<'a> {
         }
         let (lines, _) = self.words.as_chunks::<4>();
         lines
-            .binary_search_by_key(&key, |line| (line[0] % 65536) as u16)
+            .binary_search_by_key(&key, |line| low_of(line[0]))
             .ok()
     }
 }
@@ -68,8 +70,7 @@ impl<'a> Store for Sparse<'a> {
     fn fetch(&self, key: u16) -> Option<Cell> {
         let i = self.line(key)?;
         let (lines, _) = self.words.as_chunks::<4>();
-        let [_, value, write, read] = lines[i];
-        Some(Cell::in_words([value, write, read]))
+        Some(lines[i].cell())
     }
 
     fn put(&mut self, key: u16, cell: Cell) -> Result<(), Refusal> {

@@ -1,5 +1,4 @@
-ghost use Rattle.std.specs.Prelude.{◌≡◌, ◌/◌, ◌&&◌, length, is_some, slice_index};
-ghost use Rattle.std.specs.List.{list_all};
+ghost use Rattle.std.specs.Prelude.{◌≡◌, ◌/◌, ◌&&◌, length, slice_index};
 ghost use Rattle.wire.specs.Messages.{pair_in, pair_at, pairs_good, count_good};
 
 use crate::word::{key_in, value_in};
@@ -21,26 +20,12 @@ pub fn pair_at(pairs: &[u32], i: usize) -> Option<(u16, i16)>
     pair_in(pair)
 }
 
-// Whether two words are a pair.
-fn is_pair(words: &[u32; 2]) -> bool
-    ensures { result ≡ is_some (pair_in (slice_index words.now 0) (slice_index words.now 1)) }
-{
-    pair_in(words).is_some()
-}
-
-// Whether each two words are a pair.
-fn all_pairs(pairs: &[[u32; 2]]) -> bool
-    ensures { result ≡ list_all (λ p. is_some (pair_in (slice_index p 0) (slice_index p 1))) pairs.now }
-{
-    pairs.iter().all(is_pair)
-}
-
 // Whether words are pairs, one after another.
 fn pairs_good(words: &[u32]) -> bool
     ensures { result ≡ pairs_good words.now }
 {
-    let (pairs, rest) = words.as_chunks();
-    rest.is_empty() && all_pairs(pairs)
+    let (pairs, rest) = words.as_chunks::<2>();
+    rest.is_empty() && pairs.iter().all(|pair| pair_in(pair).is_some())
 }
 
 // Whether words are the pairs of a prewrite, 1 to 64 of them.

@@ -4,4 +4,4 @@ use Rattle.store.proofs.memory.check_lines.Given as goal
 
 abbrev pub invariant-loop-i : goal.invariant-loop-i
 invariant-loop-i g l =
-    first_of g.L.Line.cause l.i-counter l.before (drop l.i-counter l.lines) ≡ first_of g.L.Line.cause 0 None l.lines
+    first_of g.L.StoredLine.cause l.i-counter l.before (drop l.i-counter l.lines) ≡ first_of g.L.StoredLine.cause 0 None l.lines

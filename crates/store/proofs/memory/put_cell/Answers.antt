@@ -4,5 +4,5 @@ use Rattle.store.proofs.memory.put_cell.Goals as goal
 
 pub returns-clause-words : goal.returns-clause-words
 returns-clause-words c =
-    rw (c.copy_from_slice.ensures.after ∙ c.words.ensures.words)
+    rw (c.copy_from_slice.ensures.after ∙ c.from.ensures.words)
     (three_spliced c.args.words.now c.args.at _ _ _ _ (omega arith) c.requires)

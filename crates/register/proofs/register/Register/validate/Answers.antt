@@ -36,22 +36,11 @@ invariant_of-take_range g c =
     let limits = taken_limits r _ _ (floors m r.transaction r.ground) (ceilings m r.transaction r.ground) range c.in-Some.ensures.bounded f.ensures.lower f.ensures.upper (found f.result.range.lower f.result.range.upper false (search rules) (search rules) c.if-findings.false)
     (λ some. subst (Within f.result.range.lower f.result.range.upper) (sym chosen) (g.met.P.Policy.within self.policy _ _ _ _ some))
     (search rules) (search rules) in
-    record { least = limits.lower_least; most = limits.upper_most }
-
-pub take_range-requires : goal.take_range-requires
-take_range-requires g c =
-    let self = c.args.self.now in
-    let m = model g.S.Store.cells self in
-    let r = c.in-Some.row in
-    let f = c.findings-findings in
-    let range = c.choose-lower.result in
-    let chosen = c.choose-lower.ensures r.transaction r.ground f.ensures.marked in
     record {
-      bounded = c.in-Some.ensures.bounded;
-      limits =
-          taken_limits r _ _ (floors m r.transaction r.ground) (ceilings m r.transaction r.ground) range c.in-Some.ensures.bounded f.ensures.lower f.ensures.upper (found f.result.range.lower f.result.range.upper false (search rules) (search rules) c.if-findings.false)
-          (λ some. subst (Within f.result.range.lower f.result.range.upper) (sym chosen) (g.met.P.Policy.within self.policy _ _ _ _ some))
-          (search rules) (search rules);
+      lower_least = limits.lower_least;
+      lower_most = limits.lower_most;
+      upper_least = limits.upper_least;
+      upper_most = limits.upper_most;
     }
 
 pub returns : goal.returns

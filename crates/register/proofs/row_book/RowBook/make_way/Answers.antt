@@ -32,7 +32,7 @@ invariant_of-self c =
     let pushed = pushed_by own.before own.after (range.lower, range.upper) row in
     let written : held c.set.new.self ≡ set rows i pushed =
     held_set i _ self.book _ c.set.result c.set.ensures.cases within ∙ ap (set rows i) c.push.ensures in
-    let bounded = pushed_bounded own.before own.after range.lower range.upper row range.least range.most
+    let bounded = pushed_bounded own.before own.after range.lower range.upper row range.lower_least range.upper_most
     (nth_holds Bounded rows i row read within sound.bounded) in
     record {
       few = subst (λ n. n ≤ 256) (sym c.set.ensures.stays.room) self.few;

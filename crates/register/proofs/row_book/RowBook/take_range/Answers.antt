@@ -7,7 +7,12 @@ use Rattle.register.proofs.Pushing.{stays_on}
 use Rattle.register.proofs.row_book.RowBook.take_range.Goals as goal
 
 pub move_row-requires-clause-fits : goal.move_row-requires-clause-fits
-move_row-requires-clause-fits c = subst FitsEvent (sym c.pass.ensures) c.requires.limits
+move_row-requires-clause-fits c = subst FitsEvent (sym c.pass.ensures) (record {
+  lower_least = c.args.range.lower_least;
+  lower_most = c.args.range.lower_most;
+  upper_least = c.args.range.upper_least;
+  upper_most = c.args.range.upper_most;
+})
 
 pub returns : goal.returns
 returns c =

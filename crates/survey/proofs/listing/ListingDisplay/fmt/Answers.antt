@@ -19,7 +19,7 @@ returns-clause-writes g c plain ok =
     let three = c.in_ok-write_number.ensures two.plain refl in
     let parts = line_parts (codes "ground ") (decimal c.args.self.now.ground) (codes "  plot ")
     (at_right 4 (decimal c.args.self.now.number))
-    (offset_column (codes "east missing  ") (option_map (told East West) plot.east))
-    (offset_column (codes "north missing ") (option_map (told North South) plot.north))
+    (offset_column (codes "east missing") (option_map (told East West) plot.east))
+    (offset_column (codes "north missing") (option_map (told North South) plot.north))
     (number_column (codes "holder") plot.holder) (number_column (codes "status") plot.status) in
     put_five g.W.Write.write_str_gives _ _ _ _ _ _ _ _ _ _ _ _ head one two three (c.write_number-2.ensures three.plain ok) parts
