@@ -187,10 +187,7 @@ fn a_transaction_apart_from_the_other(rt: HostRuntime) {
 fn row_of(transaction: u32, state: State) -> Row {
     Row {
         transaction,
-        ground: 1,
-        state,
-        lower: 3,
-        upper: 12,
+        ..row(state, 3, 12)
     }
 }
 

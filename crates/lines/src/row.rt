@@ -26,7 +26,8 @@ pub struct RowKey {
 }
 
 // What one ground knows of one transaction: its state, and the stamps that still suit it, from `lower` to `upper`, both inside.
-// Their limits are no fact of this type, since it would ask them of everyone who writes a row or an event.
+// The bounds' limits are no fact of this type, since it would ask them of everyone who writes a row or an event.
+// The parts of its key are fields of their own, as those of a read line are.
 #[derive(Clone, Copy, PartialEq, Eq, Debug)]
 pub struct Row {
     pub transaction: u32,

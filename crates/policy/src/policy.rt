@@ -7,6 +7,7 @@ pub trait Policy {
     ghost chosen: { Self → ℤ → ℤ → List ℤ → List ℤ → ℤ × ℤ };
 
     // The bounds that the policy answers, lower and upper together.
+    // Two numbers and no type of a range: whoever offers a policy should have no more than numbers to learn.
     fn choose(&self, lower: i32, upper: i32, befores: &[i32], afters: &[i32]) -> (i32, i32)
         ensures { result ≡ chosen self.now lower upper befores.now afters.now };
 

@@ -1,5 +1,4 @@
 -- The worked cases, computed.
-pub mod Computed
 -- What every call leans on: lines by their places, the rows that a register keeps, what is left after a refusal.
 pub mod Places
 pub mod RowBook

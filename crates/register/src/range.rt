@@ -42,7 +42,7 @@ impl Range {
 }
 
 // A range that was taken: its bounds are within the limits of a row, so that it can be written into one, and that no bound of a row
-// that makes way for it overflows.
+// that makes way for it overflows. A type apart from `Range`, whose bounds may lie anywhere.
 #[derive(Clone, Copy)]
 pub struct Taken {
     pub lower: i32,

@@ -11,6 +11,7 @@ pub fn replace<L: Line>(book: &mut Book<L>, key: L::Key, line: L)
     ensures stays { Stays book.old book.new }
 {
     if let Some(i) = book.search(key) {
+        // The place is one of the book's, so the line is set.
         book.set(i, line);
     }
 }

@@ -62,7 +62,7 @@ impl<'a> RowBook<'a> {
         Some((place, row))
     }
 
-    // Moves a row by an event, and writes it into its place.
+    // Moves a row by an event, and writes it into its place. An event that is refused leaves the row as it was.
     pub fn move_row(&mut self, row: Row, event: Event)
         requires bounded { Bounded row }
         requires fits { FitsEvent event }

@@ -26,7 +26,7 @@ pub struct Fault {
 }
 
 impl Cause {
-    // The cause as a text, for whoever has no formatter.
+    // The cause as a text, for whoever may not allocate.
     pub fn text(self) -> &'static str
         ensures { result.now ≡ cause_text self }
     {

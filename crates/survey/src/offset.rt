@@ -56,7 +56,7 @@ impl Offset {
 }
 
 impl Direction {
-    // The direction in a word, for whoever has no formatter.
+    // The direction in a word, for whoever may not allocate.
     pub fn name(self) -> &'static str
         ensures { result.now ≡ name_of self }
     {

@@ -37,6 +37,7 @@ impl From<Kind> for u32 {
 
 impl Kind {
     // The kind of a word, or nothing where its number is 0. No TryFrom, since it is read off a word and not off its number.
+    // The numbers stand here once more, since the language reads no enum from one.
     pub fn of(word: u32) -> Option<Kind>
         ensures { MatchOption result (kind_of word ≡ 0) (λ kind. kind_number kind ≡ kind_of word) }
     {

@@ -131,6 +131,7 @@ impl<'w> Message<'w> {
     }
 
     // The words that say the message, or nothing where none do: a transaction above 4,095, no pairs or more than 64, or a bad pair.
+    // No TryFrom, since an error would have nothing to say that nothing does not.
     pub fn words(self) -> Option<MessageWords<'w>>
         ensures { option_map listed result ≡ written (said self.entry) }
     {

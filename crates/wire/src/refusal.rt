@@ -32,7 +32,7 @@ impl From<Refusal> for u16 {
 }
 
 impl Refusal {
-    // The cause as a text, for whoever has no formatter.
+    // The cause as a text, for whoever may not allocate.
     pub fn text(self) -> &'static str
         ensures { result.now ≡ refusal_text self }
     {

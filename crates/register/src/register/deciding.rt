@@ -57,7 +57,7 @@ impl<'a> RowBook<'a> {
     }
 
     // Whether one is Aborted.
-    // Beside the other, since a proof about an equal state is longer than these lines.
+    // Apart from `any_running`, since one function for a given state would want a longer proof than it saves lines.
     fn any_aborted(&self, transaction: u32) -> bool
         ensures { result ≡ any (λ r. is_aborted r.state) (filter (is_own transaction) (held self.now.book)) }
     {

@@ -18,7 +18,7 @@ pub struct Marks {
 }
 
 // What the notes tell of a transaction at a ground: the range that is left to it, and how the rows, by their places in the row
-// book, have to make way.
+// book, have to make way. There is a mark for each row that a book can hold, since nothing may be allocated.
 #[derive(Drop)]
 pub struct Findings {
     pub range: Range,

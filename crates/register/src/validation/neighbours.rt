@@ -23,7 +23,7 @@ impl Neighbours {
         let mut befores = Gathered::new(0);
         let mut afters = Gathered::new(0);
         let lines = rows.lines();
-        // By a number and no `zip`: a row's marks are found by its place here as everywhere.
+        // No plainer as a `zip`, which would hide that there are more marks than rows.
         for (i, row) in lines.iter().enumerate() {
             if findings.marks[i].before {
                 befores.push(row.lower);
