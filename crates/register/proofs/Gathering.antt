@@ -16,7 +16,8 @@ abbrev pub no_row : Row
 no_row = record { transaction = 0; ground = 0; state = Running; lower = pos 0; upper = pos 0 }
 
 -- A list with at most one value more.
-pub longer : {X : Type 0} (out out' : List X) (b : Bool) (i : ℕ) (x : X) → out' ≡ out ++ cond b (x ∷ []) [] → length out ≤ i → length out' ≤ i + 1
+pub longer : {X : Type 0} (out out' : List X) (b : Bool) (i : ℕ) (x : X) → out' ≡ out ++ cond b (x ∷ []) [] → length out ≤ i
+    → length out' ≤ i + 1
 longer out out' true i x e h = let l = ap length e ∙ length-append out (x ∷ []) in omega arith
 longer out out' false i x e h = let l = ap length e ∙ length-append out [] in omega arith
 

@@ -3,7 +3,8 @@
 --   raised_least, lowered_most      a bound that is raised does not sink; one that is lowered does not rise
 --   above_each                      what is left above what each line gives, line by line
 --   floors_kept, floors_found       what the lines give that pass a test, or that have a cell
---   above_reads_is, above_writes_is what is left above all that reads give, or writes
+--   above_reads, above_writes       what is left of a range as a validation goes over the reads and the writes, line by line
+--   above_reads_is, above_writes_is it is what is left above all that they give
 --   raised_floors                   above what the reads give, then the writes, then the notes
 --   upper_left                      reads and writes leave the upper bound
 use Rattle.std.proofs.Common.{◌≡◌, ℕ, Bool, cond, List, [], ◌∷◌, ◌++◌, ℤ, pos, ◌≤ℤ◌, Some, fold, filter, Option, sym, refl, ap, ◌∙◌, arith}
@@ -14,7 +15,7 @@ use Rattle.store.specs.declared.cell.Cell.{Cell}
 use Rattle.lines.specs.declared.access.ReadLine.{ReadLine}
 use Rattle.lines.specs.declared.access.WriteLine.{WriteLine}
 use Rattle.register.specs.Model.{Model}
-use Rattle.register.specs.Ranges.{above_all, above_reads, above_writes}
+use Rattle.register.specs.Ranges.{above, above_all}
 use Rattle.register.specs.Validation.{
   raise,
   lower,
@@ -69,6 +70,15 @@ floors_found : {X : Type 0} (cell : X → Option Cell) (xs : List X)
     → flat_map (λ c. stamps_of (Some c)) (filter_map cell xs) ≡ flat_map (λ x. stamps_of (cell x)) xs
 floors_found cell [] = refl
 floors_found cell (x ∷ xs) = let later = floors_found cell xs in grind arith
+
+-- Each read line of t at g in turn.
+abbrev pub above_reads : ℕ → ℕ → Range → List ReadLine → Range
+above_reads t g r xs = fold (λ a x. above a (pos x.seen.number)) r (filter (λ x. of_here t g x.transaction x.key) xs)
+
+-- The cell of each write line of t at g in turn.
+abbrev pub above_writes : Cells → ℕ → ℕ → Range → List WriteLine → Range
+above_writes cells t g r xs =
+    fold (λ a c. above_all a (stamps_of (Some c))) r (filter_map (λ x. cells x.key) (filter (λ x. of_here t g x.transaction x.key) xs))
 
 module _ (t g : ℕ) (r : Range) where
   -- Line by line, reads leave what lies above all that they give.

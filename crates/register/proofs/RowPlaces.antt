@@ -26,7 +26,8 @@ apart_at k (x ∷ xs) h zero d l = h.0
 apart_at k (x ∷ xs) h (suc i) d l = apart_at k xs h.1 i d (omega arith)
 
 -- Rows with different keys: the first, and the others.
-first_apart : (x : Row) (xs : List Row) → IsDistinct same_row (map row_key (x ∷ xs)) → AllByRecursion (λ j. same_row (row_key x) j ≡ false) (map row_key xs)
+first_apart : (x : Row) (xs : List Row) → IsDistinct same_row (map row_key (x ∷ xs))
+    → AllByRecursion (λ j. same_row (row_key x) j ≡ false) (map row_key xs)
 unfolding IsDistinct
 first_apart x xs h = h.0
 

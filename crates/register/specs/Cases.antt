@@ -42,12 +42,12 @@ abbrev pub full : Rooms
 full = record { transactions = 64; rows = 256; reads = 512; writes = 512; notes = 4096 }
 
 -- The reply of a call that answers no more than that it was done.
-abbrev pub done : Response
-done = Ok Done
+abbrev pub ok : Response
+ok = Ok Done
 
 -- The reply of a validation that failed, of a decision that aborted, and of a withdrawal.
-abbrev pub aborted : Response
-aborted = Ok Aborted
+abbrev pub abort : Response
+abort = Ok Aborted
 
 -- The reply of a read: a value and its write stamp.
 abbrev pub value : ℤ → ℕ → Response

@@ -15,7 +15,7 @@ use Rattle.wire.specs.declared.refusal.Refusal.TheVariants.{
   NoSuchKey,
 }
 use Rattle.register.specs.declared.call.Call.TheVariants.{Begin, Read, Prewrite, Validate, Decide, Withdraw, Settle}
-use Rattle.register.specs.Cases.{Case, cell, full, top, value, range, commit, aborted, done}
+use Rattle.register.specs.Cases.{Case, cell, full, top, value, range, commit, abort, ok}
 
 -- Numbers rise, from 1 to 4,095.
 abbrev pub numbers : Case
@@ -24,8 +24,8 @@ numbers = record {
   rooms = full;
   policy = whole_range;
   script =
-      (Begin 0, Err BadNumber) ∷ (Begin 5, done) ∷ (Begin 5, Err BadNumber) ∷ (Begin 3, Err BadNumber) ∷
-      (Begin 4096, Err BadNumber) ∷ (Begin 4095, done) ∷ (Begin 4095, Err BadNumber) ∷ [];
+      (Begin 0, Err BadNumber) ∷ (Begin 5, ok) ∷ (Begin 5, Err BadNumber) ∷ (Begin 3, Err BadNumber) ∷
+      (Begin 4096, Err BadNumber) ∷ (Begin 4095, ok) ∷ (Begin 4095, Err BadNumber) ∷ [];
   ends = [];
 }
 
@@ -36,7 +36,7 @@ never_begun = record {
   rooms = full;
   policy = whole_range;
   script =
-      (Begin 2, done) ∷ (Read 1 0, Err NeverBegun) ∷ (Prewrite 1 0 (pos 1), Err NeverBegun) ∷
+      (Begin 2, ok) ∷ (Read 1 0, Err NeverBegun) ∷ (Prewrite 1 0 (pos 1), Err NeverBegun) ∷
       (Validate 1 0, Err NeverBegun) ∷ (Decide 1, Err NeverBegun) ∷ (Withdraw 1, Err NeverBegun) ∷
       (Settle 1 0, Err NeverBegun) ∷ (Decide 2, commit 0) ∷ (Read 2 0, Err AlreadyDecided) ∷
       (Prewrite 2 0 (pos 1), Err AlreadyDecided) ∷ (Validate 2 0, Err AlreadyDecided) ∷
@@ -51,13 +51,13 @@ order_of_checks = record {
   rooms = full;
   policy = whole_range;
   script =
-      (Begin 1, done) ∷ (Read 1 8, Err NoSuchKey) ∷ (Prewrite 1 8 (pos 1), Err NoSuchKey) ∷
-      (Validate 1 0, Err NoRow) ∷ (Settle 1 0, Err NotDecided) ∷ (Prewrite 1 0 (pos 1), done) ∷
+      (Begin 1, ok) ∷ (Read 1 8, Err NoSuchKey) ∷ (Prewrite 1 8 (pos 1), Err NoSuchKey) ∷
+      (Validate 1 0, Err NoRow) ∷ (Settle 1 0, Err NotDecided) ∷ (Prewrite 1 0 (pos 1), ok) ∷
       (Read 1 8192, Err ReadAfterPrewrite) ∷ (Validate 1 8, Err NoRow) ∷ (Decide 1, Err StillRunning) ∷
       (Validate 1 0, range 1 top) ∷ (Read 1 8, Err NoSuchKey) ∷ (Read 1 4, Err NotRunning) ∷
       (Prewrite 1 4 (pos 1), Err NotRunning) ∷ (Validate 1 0, Err NotRunning) ∷
       (Read 1 8192, Err ReadAfterPrewrite) ∷ (Settle 1 0, Err NotDecided) ∷ (Decide 1, commit 1) ∷
-      (Settle 1 1, Err NoRow) ∷ (Settle 1 0, done) ∷ (Settle 1 0, Err AlreadySettled) ∷
+      (Settle 1 1, Err NoRow) ∷ (Settle 1 0, ok) ∷ (Settle 1 0, Err AlreadySettled) ∷
       (Settle 1 7, Err NoRow) ∷ [];
   ends = (0, ((pos 1), 1, 0)) ∷ (4, ((pos 0), 0, 0)) ∷ [];
 }
@@ -69,10 +69,10 @@ read_again = record {
   rooms = full;
   policy = near_range;
   script =
-      (Begin 1, done) ∷ (Read 1 0, value (pos 0) 0) ∷ (Begin 2, done) ∷ (Prewrite 2 0 (pos 50), done) ∷
-      (Validate 2 0, range 1 1024) ∷ (Decide 2, commit 1) ∷ (Settle 2 0, done) ∷ (Read 1 0, value (pos 0) 0) ∷
-      (Prewrite 1 8192 (pos 5), done) ∷ (Read 1 0, Err ReadAfterPrewrite) ∷ (Validate 1 0, aborted) ∷
-      (Validate 1 1, range 1 top) ∷ (Decide 1, aborted) ∷ (Settle 1 0, Err AlreadySettled) ∷ (Settle 1 1, done) ∷ [];
+      (Begin 1, ok) ∷ (Read 1 0, value (pos 0) 0) ∷ (Begin 2, ok) ∷ (Prewrite 2 0 (pos 50), ok) ∷
+      (Validate 2 0, range 1 1024) ∷ (Decide 2, commit 1) ∷ (Settle 2 0, ok) ∷ (Read 1 0, value (pos 0) 0) ∷
+      (Prewrite 1 8192 (pos 5), ok) ∷ (Read 1 0, Err ReadAfterPrewrite) ∷ (Validate 1 0, abort) ∷
+      (Validate 1 1, range 1 top) ∷ (Decide 1, abort) ∷ (Settle 1 0, Err AlreadySettled) ∷ (Settle 1 1, ok) ∷ [];
   ends = (0, ((pos 50), 1, 0)) ∷ (8192, ((pos 0), 0, 0)) ∷ [];
 }
 
@@ -83,10 +83,10 @@ late_settlement = record {
   rooms = full;
   policy = whole_range;
   script =
-      (Begin 1, done) ∷ (Read 1 0, value (pos 7) 50) ∷ (Prewrite 1 8192 (pos 5), done) ∷
-      (Validate 1 0, range 51 top) ∷ (Validate 1 1, range 81 top) ∷ (Decide 1, commit 81) ∷ (Settle 1 0, done) ∷
-      (Begin 2, done) ∷ (Read 2 8192, value (pos 9) 0) ∷ (Validate 2 1, range 1 80) ∷ (Decide 2, commit 1) ∷
-      (Settle 2 1, done) ∷ (Settle 1 1, done) ∷ [];
+      (Begin 1, ok) ∷ (Read 1 0, value (pos 7) 50) ∷ (Prewrite 1 8192 (pos 5), ok) ∷
+      (Validate 1 0, range 51 top) ∷ (Validate 1 1, range 81 top) ∷ (Decide 1, commit 81) ∷ (Settle 1 0, ok) ∷
+      (Begin 2, ok) ∷ (Read 2 8192, value (pos 9) 0) ∷ (Validate 2 1, range 1 80) ∷ (Decide 2, commit 1) ∷
+      (Settle 2 1, ok) ∷ (Settle 1 1, ok) ∷ [];
   ends = (0, ((pos 7), 50, 81)) ∷ (8192, ((pos 5), 81, 80)) ∷ [];
 }
 
@@ -97,13 +97,13 @@ third_between = record {
   rooms = full;
   policy = near_range;
   script =
-      (Begin 1, done) ∷ (Begin 2, done) ∷ (Prewrite 1 0 (pos 11), done) ∷ (Prewrite 1 8192 (pos 12), done) ∷
-      (Validate 1 0, range 11 top) ∷ (Validate 1 1, range 21 top) ∷ (Decide 1, commit 21) ∷ (Settle 1 0, done) ∷
-      (Begin 3, done) ∷ (Read 3 0, value (pos 11) 21) ∷ (Read 3 8192, value (pos 2) 20) ∷
-      (Validate 3 0, range 22 top) ∷ (Validate 3 1, aborted) ∷ (Decide 3, aborted) ∷ (Settle 3 0, done) ∷
-      (Prewrite 2 8192 (pos 13), done) ∷ (Prewrite 2 0 (pos 14), done) ∷ (Validate 2 0, range 22 top) ∷
-      (Settle 1 1, done) ∷ (Validate 2 1, range 22 top) ∷ (Decide 2, commit 22) ∷ (Settle 2 1, done) ∷
-      (Settle 2 0, done) ∷ [];
+      (Begin 1, ok) ∷ (Begin 2, ok) ∷ (Prewrite 1 0 (pos 11), ok) ∷ (Prewrite 1 8192 (pos 12), ok) ∷
+      (Validate 1 0, range 11 top) ∷ (Validate 1 1, range 21 top) ∷ (Decide 1, commit 21) ∷ (Settle 1 0, ok) ∷
+      (Begin 3, ok) ∷ (Read 3 0, value (pos 11) 21) ∷ (Read 3 8192, value (pos 2) 20) ∷
+      (Validate 3 0, range 22 top) ∷ (Validate 3 1, abort) ∷ (Decide 3, abort) ∷ (Settle 3 0, ok) ∷
+      (Prewrite 2 8192 (pos 13), ok) ∷ (Prewrite 2 0 (pos 14), ok) ∷ (Validate 2 0, range 22 top) ∷
+      (Settle 1 1, ok) ∷ (Validate 2 1, range 22 top) ∷ (Decide 2, commit 22) ∷ (Settle 2 1, ok) ∷
+      (Settle 2 0, ok) ∷ [];
   ends = (0, ((pos 14), 22, 10)) ∷ (8192, ((pos 13), 22, 20)) ∷ [];
 }
 
@@ -114,11 +114,11 @@ withdrawn = record {
   rooms = full;
   policy = whole_range;
   script =
-      (Begin 1, done) ∷ (Prewrite 1 0 (pos 5), done) ∷ (Withdraw 1, aborted) ∷
-      (Validate 1 0, Err AlreadyDecided) ∷ (Begin 2, done) ∷ (Read 2 0, value (pos 0) 0) ∷ (Begin 3, done) ∷
-      (Prewrite 3 0 (pos 6), done) ∷ (Validate 3 0, range 1 top) ∷ (Validate 2 0, aborted) ∷ (Settle 1 0, done) ∷
-      (Settle 1 0, Err AlreadySettled) ∷ (Decide 2, aborted) ∷ (Decide 3, commit 1) ∷ (Settle 3 0, done) ∷
-      (Begin 4, done) ∷ (Prewrite 4 0 (pos 7), done) ∷ (Validate 4 0, range 2 top) ∷ [];
+      (Begin 1, ok) ∷ (Prewrite 1 0 (pos 5), ok) ∷ (Withdraw 1, abort) ∷
+      (Validate 1 0, Err AlreadyDecided) ∷ (Begin 2, ok) ∷ (Read 2 0, value (pos 0) 0) ∷ (Begin 3, ok) ∷
+      (Prewrite 3 0 (pos 6), ok) ∷ (Validate 3 0, range 1 top) ∷ (Validate 2 0, abort) ∷ (Settle 1 0, ok) ∷
+      (Settle 1 0, Err AlreadySettled) ∷ (Decide 2, abort) ∷ (Decide 3, commit 1) ∷ (Settle 3 0, ok) ∷
+      (Begin 4, ok) ∷ (Prewrite 4 0 (pos 7), ok) ∷ (Validate 4 0, range 2 top) ∷ [];
   ends = (0, ((pos 6), 1, 0)) ∷ [];
 }
 
@@ -129,9 +129,9 @@ aborted_ignored = record {
   rooms = full;
   policy = near_range;
   script =
-      (Begin 1, done) ∷ (Begin 2, done) ∷ (Prewrite 1 0 (pos 10), done) ∷ (Prewrite 2 0 (pos 20), done) ∷
-      (Withdraw 1, aborted) ∷ (Settle 1 0, done) ∷ (Validate 2 0, range 1 top) ∷ (Decide 2, commit 1) ∷
-      (Settle 2 0, done) ∷ [];
+      (Begin 1, ok) ∷ (Begin 2, ok) ∷ (Prewrite 1 0 (pos 10), ok) ∷ (Prewrite 2 0 (pos 20), ok) ∷
+      (Withdraw 1, abort) ∷ (Settle 1 0, ok) ∷ (Validate 2 0, range 1 top) ∷ (Decide 2, commit 1) ∷
+      (Settle 2 0, ok) ∷ [];
   ends = (0, ((pos 20), 1, 0)) ∷ [];
 }
 
@@ -142,9 +142,9 @@ prewrite_again = record {
   rooms = full;
   policy = near_range;
   script =
-      (Begin 1, done) ∷ (Begin 2, done) ∷ (Prewrite 1 0 (pos 10), done) ∷ (Prewrite 2 0 (pos 20), done) ∷
-      (Prewrite 1 0 (pos 11), done) ∷ (Validate 1 0, range 1 1024) ∷ (Validate 2 0, range 1025 top) ∷
-      (Decide 2, commit 1025) ∷ (Decide 1, commit 1) ∷ (Settle 1 0, done) ∷ (Settle 2 0, done) ∷ [];
+      (Begin 1, ok) ∷ (Begin 2, ok) ∷ (Prewrite 1 0 (pos 10), ok) ∷ (Prewrite 2 0 (pos 20), ok) ∷
+      (Prewrite 1 0 (pos 11), ok) ∷ (Validate 1 0, range 1 1024) ∷ (Validate 2 0, range 1025 top) ∷
+      (Decide 2, commit 1025) ∷ (Decide 1, commit 1) ∷ (Settle 1 0, ok) ∷ (Settle 2 0, ok) ∷ [];
   ends = (0, ((pos 20), 1025, 0)) ∷ [];
 }
 
@@ -155,11 +155,11 @@ little_room = record {
   rooms = record { transactions = 2; rows = 2; reads = 1; writes = 1; notes = 0 };
   policy = whole_range;
   script =
-      (Begin 1, done) ∷ (Begin 2, done) ∷ (Begin 3, Err NoRoom) ∷ (Read 1 0, value (pos 0) 0) ∷
+      (Begin 1, ok) ∷ (Begin 2, ok) ∷ (Begin 3, Err NoRoom) ∷ (Read 1 0, value (pos 0) 0) ∷
       (Read 1 0, value (pos 0) 0) ∷ (Read 1 4, Err NoRoom) ∷ (Prewrite 2 0 (pos 5), Err NoRoom) ∷
-      (Prewrite 2 4 (pos 5), done) ∷ (Prewrite 2 4 (pos 6), done) ∷ (Prewrite 1 4 (pos 7), Err NoRoom) ∷
+      (Prewrite 2 4 (pos 5), ok) ∷ (Prewrite 2 4 (pos 6), ok) ∷ (Prewrite 1 4 (pos 7), Err NoRoom) ∷
       (Validate 1 0, range 1 top) ∷ (Validate 2 0, range 1 top) ∷ (Decide 1, commit 1) ∷ (Decide 2, commit 1) ∷
-      (Settle 2 0, done) ∷ (Settle 1 0, done) ∷ [];
+      (Settle 2 0, ok) ∷ (Settle 1 0, ok) ∷ [];
   ends = (0, ((pos 0), 0, 1)) ∷ (4, ((pos 6), 1, 0)) ∷ [];
 }
 
@@ -172,14 +172,14 @@ all_grounds = record {
   rooms = full;
   policy = near_range;
   script =
-      (Begin 1, done) ∷ (Read 1 0, value (pos 0) 0) ∷ (Read 1 8192, value (pos 1) 1) ∷
+      (Begin 1, ok) ∷ (Read 1 0, value (pos 0) 0) ∷ (Read 1 8192, value (pos 1) 1) ∷
       (Read 1 16384, value (pos 2) 2) ∷ (Read 1 24576, value (pos 3) 3) ∷ (Read 1 32768, value (pos 4) 4) ∷
       (Read 1 40960, value (pos 5) 5) ∷ (Read 1 49152, value (pos 6) 6) ∷ (Read 1 57344, value (pos 7) 7) ∷
       (Validate 1 0, range 1 top) ∷ (Validate 1 1, range 2 top) ∷ (Validate 1 2, range 3 top) ∷
       (Validate 1 3, range 4 top) ∷ (Validate 1 4, range 5 top) ∷ (Validate 1 5, range 6 top) ∷
-      (Validate 1 6, range 7 top) ∷ (Validate 1 7, range 8 top) ∷ (Decide 1, commit 8) ∷ (Settle 1 0, done) ∷
-      (Settle 1 1, done) ∷ (Settle 1 2, done) ∷ (Settle 1 3, done) ∷ (Settle 1 4, done) ∷ (Settle 1 5, done) ∷
-      (Settle 1 6, done) ∷ (Settle 1 7, done) ∷ [];
+      (Validate 1 6, range 7 top) ∷ (Validate 1 7, range 8 top) ∷ (Decide 1, commit 8) ∷ (Settle 1 0, ok) ∷
+      (Settle 1 1, ok) ∷ (Settle 1 2, ok) ∷ (Settle 1 3, ok) ∷ (Settle 1 4, ok) ∷ (Settle 1 5, ok) ∷
+      (Settle 1 6, ok) ∷ (Settle 1 7, ok) ∷ [];
   ends = (0, ((pos 0), 0, 8)) ∷ (57344, ((pos 7), 7, 8)) ∷ [];
 }
 
@@ -190,9 +190,9 @@ equal_stamps = record {
   rooms = full;
   policy = whole_range;
   script =
-      (Begin 1, done) ∷ (Begin 2, done) ∷ (Prewrite 2 8192 (pos 22), done) ∷ (Prewrite 1 0 (pos 11), done) ∷
+      (Begin 1, ok) ∷ (Begin 2, ok) ∷ (Prewrite 2 8192 (pos 22), ok) ∷ (Prewrite 1 0 (pos 11), ok) ∷
       (Validate 1 0, range 5 top) ∷ (Validate 2 1, range 5 top) ∷ (Decide 2, commit 5) ∷ (Decide 1, commit 5) ∷
-      (Settle 1 0, done) ∷ (Settle 2 1, done) ∷ [];
+      (Settle 1 0, ok) ∷ (Settle 2 1, ok) ∷ [];
   ends = (0, ((pos 11), 5, 0)) ∷ (8192, ((pos 22), 5, 0)) ∷ [];
 }
 
@@ -203,9 +203,9 @@ before_rows = record {
   rooms = full;
   policy = near_range;
   script =
-      (Begin 1, done) ∷ (Begin 2, done) ∷ (Read 1 0, value (pos 0) 9) ∷ (Prewrite 2 0 (pos 3), done) ∷
-      (Validate 2 0, range 10 1033) ∷ (Validate 1 0, aborted) ∷ (Decide 2, commit 10) ∷ (Decide 1, aborted) ∷
-      (Settle 2 0, done) ∷ [];
+      (Begin 1, ok) ∷ (Begin 2, ok) ∷ (Read 1 0, value (pos 0) 9) ∷ (Prewrite 2 0 (pos 3), ok) ∷
+      (Validate 2 0, range 10 1033) ∷ (Validate 1 0, abort) ∷ (Decide 2, commit 10) ∷ (Decide 1, abort) ∷
+      (Settle 2 0, ok) ∷ [];
   ends = (0, ((pos 3), 10, 0)) ∷ [];
 }
 

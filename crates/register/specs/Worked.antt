@@ -2,7 +2,7 @@
 use Rattle.std.specs.Prelude.{List, [], ◌∷◌, pos, negsuc}
 use Rattle.policy.specs.Ranges.{whole_range, near_range}
 use Rattle.register.specs.declared.call.Call.TheVariants.{Begin, Read, Prewrite, Validate, Decide, Settle}
-use Rattle.register.specs.Cases.{Case, cell, full, top, value, range, commit, aborted, done}
+use Rattle.register.specs.Cases.{Case, cell, full, top, value, range, commit, abort, ok}
 
 -- A reader alone: 1 to TOP, commit at 1.
 abbrev pub reader_alone : Case
@@ -11,7 +11,7 @@ reader_alone = record {
   rooms = full;
   policy = whole_range;
   script =
-      (Begin 1, done) ∷ (Read 1 0, value (pos 0) 0) ∷ (Validate 1 0, range 1 top) ∷ (Decide 1, commit 1) ∷ [];
+      (Begin 1, ok) ∷ (Read 1 0, value (pos 0) 0) ∷ (Validate 1 0, range 1 top) ∷ (Decide 1, commit 1) ∷ [];
   ends = [];
 }
 
@@ -22,9 +22,9 @@ writer_after = record {
   rooms = full;
   policy = whole_range;
   script =
-      (Begin 1, done) ∷ (Read 1 0, value (pos 0) 0) ∷ (Validate 1 0, range 1 top) ∷ (Decide 1, commit 1) ∷
-      (Settle 1 0, done) ∷ (Begin 2, done) ∷ (Prewrite 2 0 (negsuc 6), done) ∷ (Validate 2 0, range 2 top) ∷
-      (Decide 2, commit 2) ∷ (Settle 2 0, done) ∷ [];
+      (Begin 1, ok) ∷ (Read 1 0, value (pos 0) 0) ∷ (Validate 1 0, range 1 top) ∷ (Decide 1, commit 1) ∷
+      (Settle 1 0, ok) ∷ (Begin 2, ok) ∷ (Prewrite 2 0 (negsuc 6), ok) ∷ (Validate 2 0, range 2 top) ∷
+      (Decide 2, commit 2) ∷ (Settle 2 0, ok) ∷ [];
   ends = (0, ((negsuc 6), 2, 1)) ∷ [];
 }
 
@@ -35,8 +35,8 @@ beside_validated = record {
   rooms = full;
   policy = whole_range;
   script =
-      (Begin 1, done) ∷ (Prewrite 1 4 (pos 5), done) ∷ (Validate 1 0, range 141 top) ∷ (Begin 2, done) ∷
-      (Read 2 4, value (pos 0) 0) ∷ (Prewrite 2 0 (pos 9), done) ∷ (Validate 2 0, range 124 140) ∷ (Begin 3, done) ∷
+      (Begin 1, ok) ∷ (Prewrite 1 4 (pos 5), ok) ∷ (Validate 1 0, range 141 top) ∷ (Begin 2, ok) ∷
+      (Read 2 4, value (pos 0) 0) ∷ (Prewrite 2 0 (pos 9), ok) ∷ (Validate 2 0, range 124 140) ∷ (Begin 3, ok) ∷
       (Read 3 0, value (pos 8) 101) ∷ (Validate 3 0, range 102 123) ∷ [];
   ends = [];
 }
@@ -48,7 +48,7 @@ writer_after_readers = record {
   rooms = full;
   policy = whole_range;
   script =
-      (Begin 1, done) ∷ (Prewrite 1 0 (pos 5), done) ∷ (Validate 1 0, range 75 top) ∷ [];
+      (Begin 1, ok) ∷ (Prewrite 1 0 (pos 5), ok) ∷ (Validate 1 0, range 75 top) ∷ [];
   ends = [];
 }
 
@@ -59,8 +59,8 @@ reader_writer_whole = record {
   rooms = full;
   policy = whole_range;
   script =
-      (Begin 1, done) ∷ (Begin 2, done) ∷ (Read 1 0, value (pos 0) 0) ∷ (Prewrite 2 0 (pos 7), done) ∷
-      (Validate 1 0, range 1 top) ∷ (Validate 2 0, aborted) ∷ [];
+      (Begin 1, ok) ∷ (Begin 2, ok) ∷ (Read 1 0, value (pos 0) 0) ∷ (Prewrite 2 0 (pos 7), ok) ∷
+      (Validate 1 0, range 1 top) ∷ (Validate 2 0, abort) ∷ [];
   ends = [];
 }
 
@@ -71,7 +71,7 @@ reader_writer_near = record {
   rooms = full;
   policy = near_range;
   script =
-      (Begin 1, done) ∷ (Begin 2, done) ∷ (Read 1 0, value (pos 0) 0) ∷ (Prewrite 2 0 (pos 7), done) ∷
+      (Begin 1, ok) ∷ (Begin 2, ok) ∷ (Read 1 0, value (pos 0) 0) ∷ (Prewrite 2 0 (pos 7), ok) ∷
       (Validate 1 0, range 1 1024) ∷ (Validate 2 0, range 1025 top) ∷ [];
   ends = [];
 }
@@ -83,9 +83,9 @@ two_writers = record {
   rooms = full;
   policy = near_range;
   script =
-      (Begin 1, done) ∷ (Begin 2, done) ∷ (Prewrite 1 0 (pos 10), done) ∷ (Prewrite 2 0 (pos 20), done) ∷
+      (Begin 1, ok) ∷ (Begin 2, ok) ∷ (Prewrite 1 0 (pos 10), ok) ∷ (Prewrite 2 0 (pos 20), ok) ∷
       (Validate 2 0, range 1 1024) ∷ (Validate 1 0, range 1025 top) ∷ (Decide 1, commit 1025) ∷ (Decide 2, commit 1) ∷
-      (Settle 1 0, done) ∷ (Settle 2 0, done) ∷ [];
+      (Settle 1 0, ok) ∷ (Settle 2 0, ok) ∷ [];
   ends = (0, ((pos 10), 1025, 0)) ∷ [];
 }
 
@@ -96,9 +96,9 @@ ranges_apart = record {
   rooms = full;
   policy = near_range;
   script =
-      (Begin 1, done) ∷ (Begin 2, done) ∷ (Read 1 0, value (pos 0) 0) ∷ (Read 2 8192, value (pos 0) 0) ∷
-      (Prewrite 1 8192 (pos 5), done) ∷ (Prewrite 2 0 (pos 6), done) ∷ (Validate 1 0, range 1 1024) ∷
-      (Validate 2 1, range 1 1024) ∷ (Validate 1 1, range 1025 top) ∷ (Decide 1, aborted) ∷ [];
+      (Begin 1, ok) ∷ (Begin 2, ok) ∷ (Read 1 0, value (pos 0) 0) ∷ (Read 2 8192, value (pos 0) 0) ∷
+      (Prewrite 1 8192 (pos 5), ok) ∷ (Prewrite 2 0 (pos 6), ok) ∷ (Validate 1 0, range 1 1024) ∷
+      (Validate 2 1, range 1 1024) ∷ (Validate 1 1, range 1025 top) ∷ (Decide 1, abort) ∷ [];
   ends = [];
 }
 
@@ -109,7 +109,7 @@ last_stamp_taken = record {
   rooms = full;
   policy = whole_range;
   script =
-      (Begin 1, done) ∷ (Read 1 0, value (pos 3) top) ∷ (Validate 1 0, aborted) ∷ (Decide 1, aborted) ∷ [];
+      (Begin 1, ok) ∷ (Read 1 0, value (pos 3) top) ∷ (Validate 1 0, abort) ∷ (Decide 1, abort) ∷ [];
   ends = [];
 }
 
@@ -120,7 +120,7 @@ last_stamp_left = record {
   rooms = full;
   policy = whole_range;
   script =
-      (Begin 1, done) ∷ (Read 1 0, value (pos 3) 268435454) ∷ (Validate 1 0, range top top) ∷ (Decide 1, commit top) ∷ [];
+      (Begin 1, ok) ∷ (Read 1 0, value (pos 3) 268435454) ∷ (Validate 1 0, range top top) ∷ (Decide 1, commit top) ∷ [];
   ends = [];
 }
 

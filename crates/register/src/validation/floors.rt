@@ -1,6 +1,7 @@
-ghost use Rattle.std.specs.Prelude.{◌≡◌, pos, Some};
-ghost use Rattle.register.specs.Ranges.{above, above_all, above_reads, above_writes};
-ghost use Rattle.register.specs.Validation.{stamps_of};
+ghost use Rattle.std.specs.Prelude.{◌≡◌, pos, Some, fold, filter};
+ghost use Rattle.std.specs.List.{filter_map};
+ghost use Rattle.register.specs.Ranges.{above, above_all};
+ghost use Rattle.register.specs.Validation.{of_here, stamps_of};
 
 use crate::range::Range;
 use book::line::Line;
@@ -26,7 +27,8 @@ fn above_cell(range: Range, cell: Cell) -> Range
 
 // What is left of a range above the write stamps that the transaction saw at the ground.
 pub fn above_reads(range: Range, own: RowKey, reads: &[ReadLine]) -> Range
-    ensures { result ≡ above_reads own.transaction own.ground range reads.now }
+    ensures { result ≡ fold (λ left line. above left (pos line.seen.number)) range
+        (filter (λ line. of_here own.transaction own.ground line.transaction line.key) reads.now) }
 {
     reads
         .iter()
@@ -36,7 +38,9 @@ pub fn above_reads(range: Range, own: RowKey, reads: &[ReadLine]) -> Range
 
 // What is left of a range above the stamps of the cells that the transaction writes at the ground.
 pub fn above_writes<S: Store>(range: Range, own: RowKey, writes: &[WriteLine], store: &S) -> Range
-    ensures { result ≡ above_writes (S.cells store.now) own.transaction own.ground range writes.now }
+    ensures { result ≡ fold (λ left cell. above_all left (stamps_of (Some cell))) range
+        (filter_map (λ line. S.cells store.now line.key)
+        (filter (λ line. of_here own.transaction own.ground line.transaction line.key) writes.now)) }
 {
     writes
         .iter()

@@ -14,7 +14,15 @@ invariant_of-self-2 g c =
 pub returns-in_err-add_with-clause-refused : goal.returns-in_err-add_with-clause-refused
 returns-in_err-add_with-clause-refused g c =
     let kept = c.in_err-add_with.ensures in
-    refuses _ (same_register _ _ (record { store = refl; policy = refl; transactions = refl; rows = same_rows _ _ kept.rows; reads = refl; writes = kept.lines; notes = kept.notes }))
+    refuses _ (same_register _ _ (record {
+      store = refl;
+      policy = refl;
+      transactions = refl;
+      rows = same_rows _ _ kept.rows;
+      reads = refl;
+      writes = kept.lines;
+      notes = kept.notes;
+    }))
 
 pub invariant_of-rows : goal.invariant_of-rows
 invariant_of-rows g c =

@@ -33,7 +33,9 @@ invariant_of-take_range g c =
     let f = c.findings-findings in
     let range = c.choose-lower.result in
     let chosen = c.choose-lower.ensures r.transaction r.ground f.ensures.marked in
-    let limits = taken_limits r _ _ (floors m r.transaction r.ground) (ceilings m r.transaction r.ground) range c.in-Some.ensures.bounded f.ensures.lower f.ensures.upper (found f.result.range.lower f.result.range.upper false (search rules) (search rules) c.if-findings.false)
+    let limits = taken_limits r _ _ (floors m r.transaction r.ground) (ceilings m r.transaction r.ground)
+    range c.in-Some.ensures.bounded f.ensures.lower f.ensures.upper
+    (found f.result.range.lower f.result.range.upper false (search rules) (search rules) c.if-findings.false)
     (λ some. subst (Within f.result.range.lower f.result.range.upper) (sym chosen) (g.met.P.Policy.within self.policy _ _ _ _ some))
     (search rules) (search rules) in
     record {
@@ -62,7 +64,8 @@ returns g c =
           ∙ (ap (λ (p : ℤ × ℤ). (passed m r.transaction r.ground r p, Ok (Some p))) kept
           ∙ validate_passes (g.P.Policy.chosen self.policy) m c.args.transaction c.args.ground r _ _
           (sym c.open_now.ensures ∙ c.in_ok-open_now.was) (sym c.in-Some.ensures.row) (sym c.running.ensures ∙ c.in_ok-running.was)
-          _ _ f.ensures.lower f.ensures.upper (found f.result.range.lower f.result.range.upper false (search rules) (search rules) c.if-findings.false) range chosen);
+          _ _ f.ensures.lower f.ensures.upper
+          (found f.result.range.lower f.result.range.upper false (search rules) (search rules) c.if-findings.false) range chosen);
       refused = tt;
       keeps = search rules;
       rest = search rules;
