@@ -10,7 +10,7 @@ use Rattle.lines.specs.declared.row.Row.{Row}
 use Rattle.lines.specs.declared.row.State.{State}
 use Rattle.lines.specs.declared.row.State.TheVariants.{Running, Validated, Committed, Aborted}
 
--- A row is live while its transaction may still change anything at its ground.
+-- Running or Validated.
 abbrev pub live : State → Bool
 live Running = true
 live Validated = true

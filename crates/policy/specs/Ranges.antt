@@ -8,7 +8,7 @@ use Rattle.std.specs.Int.{int_min}
 abbrev pub Within : ℤ → ℤ → ℤ × ℤ → Type 0
 Within l u r = (l ≤ℤ r.0) × (r.0 ≤ℤ r.1) × (r.1 ≤ℤ u)
 
--- No row.
+-- An empty list: no row is near.
 abbrev pub none : List ℤ → Bool
 none [] = true
 none (x ∷ xs) = false

@@ -3,7 +3,7 @@ ghost use Rattle.std.proofs.Common.{rules};
 
 use crate::policy::Policy;
 
-// Takes at most 1,024 stamps where a row is near, and leaves the others to that row.
+// Takes at most 1,024 stamps where a row is near, and leaves those above them to whoever has to come later.
 #[derive(Clone, Copy)]
 pub struct Near;
 

@@ -1,7 +1,7 @@
 -- Which rows are a transaction's, and what its rows allow together, gathered row by row.
 --   is_own t r         r is a row of the transaction t
 --   is_running_own t r and it is Running
---   any_stamp          what no row allows less than: every stamp
+--   any_stamp          every stamp: what is allowed where there is no row
 --   allowed_with a r   what a and the row r allow together
 --   allowed_by rs      what all rows of rs allow together
 use Rattle.std.specs.Prelude.{ℕ, Bool, ◌&&◌, List, pos, fold, ◌==◌}

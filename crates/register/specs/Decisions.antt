@@ -33,7 +33,7 @@ largest_lower rs = fold int_max (pos 0) (map (λ r. r.lower) rs)
 abbrev pub smallest_upper : List Row → ℤ
 smallest_upper rs = fold int_min (pos 268435455) (map (λ r. r.upper) rs)
 
--- Committed at a stamp; a bound that is no stamp is met in no range from 0 to TOP.
+-- Committed at a stamp; Aborted at a bound that is none, which no range from 0 to TOP has for its lower.
 abbrev pub committed_at : Option Stamp → Decision
 committed_at (Some c) = Committed c
 committed_at None = Aborted
@@ -59,12 +59,12 @@ decided_as m t d =
 abbrev pub later : Stamp → Stamp → Stamp
 later a b = cond (nat_lt a.number b.number) b a
 
--- A cell after its reader, if it is one, is settled at c: its read stamp is at least c.
+-- A cell after a transaction is settled at c, by its read line of the cell, if it has one: the read stamp is at least c.
 abbrev pub read_settled : Option ReadLine → Stamp → Cell → Cell
 read_settled None c x = x
 read_settled (Some r) c x = record { value = x.value; write = x.write; read = later x.read c }
 
--- A cell after its writer, if it is one, is settled at c: it has the writer's value where c exceeds its write stamp.
+-- The same by its write line, if it has one: the cell has the line's value where c exceeds its write stamp.
 abbrev pub write_settled : Option WriteLine → Stamp → Cell → Cell
 write_settled None c x = x
 write_settled (Some w) c x =

@@ -1,5 +1,5 @@
 -- What a pass over the notes finds for a transaction t at a ground g.
---   unmarked               the marks of a row that has not to make way
+--   unmarked               the marks of a row that need not make way
 --   unfound r              the range r, and no row that has to make way
 --   marks_at f i           the marks that f has at the place i
 --   with_effect i e f      the findings f with what follows from the effect e of a note whose other party's row has the place i

@@ -5,11 +5,11 @@ use Rattle.register.specs.Model.{Chooses}
 use Rattle.register.specs.declared.call.Call.{Call}
 use Rattle.serial.specs.Days.{Day, new_day, next, day_after, Meaning}
 use Rattle.serial.specs.Promise.{Promise}
-use Rattle.serial.proofs.Alike.{local_under}
-use Rattle.serial.proofs.Alone.{alone_in}
-use Rattle.serial.proofs.Holding.{Holds}
-use Rattle.serial.proofs.SerialLaw.{law}
-use Rattle.serial.proofs.Steps.{holds_new, holds_step}
+use Rattle.serial.proofs.Local.Alike.{local_under}
+use Rattle.serial.proofs.Alone.Commits.{alone_in}
+use Rattle.serial.proofs.Steps.Holding.{Holds}
+use Rattle.serial.proofs.Order.SerialLaw.{law}
+use Rattle.serial.proofs.Steps.AllSteps.{holds_new, holds_step}
 
 -- On every day.
 holds_day : (P : Chooses) → Meaning P → (first : Cells) (d : Day) (calls : List Call) → Holds first d.history d.model

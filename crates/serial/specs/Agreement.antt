@@ -1,6 +1,7 @@
 -- When two registers agree on a ground, and what that means for a validation there.
 --   Agree g m n   the registers m and n agree on the ground g
---   Local         registers that agree on a ground, a transaction's line and in policy answer its validation there alike
+--   LocalUnder P  under the policy P a ground's validation depends on that ground alone
+--   Local         it does under every policy
 use Rattle.std.specs.Prelude.{◌≡◌, ℕ, List, ℤ, filter, nat_eq}
 use Rattle.wire.specs.Keys.{ground_of}
 use Rattle.lines.specs.declared.access.ReadLine.{ReadLine}
@@ -43,8 +44,13 @@ pub record Alike (P Q : Chooses) (m n : Model) (t g : ℕ) : Type 0 where
   pub answer : (validate P m t g).1 ≡ (validate Q n t g).1
   pub agree : Agree g (validate P m t g).0 (validate Q n t g).0
 
--- Whatever calls each register saw, and whatever its other grounds hold.
-abbrev pub Local : Type 0
-Local =
-    (P Q : Chooses) → SamePolicy P Q → (m n : Model) (t g : ℕ) → Agree g m n → transaction_of m t ≡ transaction_of n t
+-- Two registers that agree on a ground, on a transaction's line and in policy answer its validation there alike, and still agree there:
+-- whatever calls each saw, and whatever their other grounds hold.
+abbrev pub LocalUnder : Chooses → Type 0
+LocalUnder P =
+    (Q : Chooses) → SamePolicy P Q → (m n : Model) (t g : ℕ) → Agree g m n → transaction_of m t ≡ transaction_of n t
     → Alike P Q m n t g
+
+-- Under every policy, also one that does not keep its meaning.
+abbrev pub Local : Type 0
+Local = (P : Chooses) → LocalUnder P

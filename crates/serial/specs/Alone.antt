@@ -1,9 +1,10 @@
--- A transaction that meets nobody commits while stamps last.
+-- A transaction that has the register to itself commits while stamps last.
 --   NonePending h      no transaction is pending at any ground
 --   keys_of h t        the keys of t's accepted reads and prewrites
 --   Fresh cells k      both stamps of the cell at k, if there is one, are below TOP
---   Alone              the promise
-use Rattle.std.specs.Prelude.{◌≡◌, ℕ, ◌<◌, true, false, cond, ◌&&◌, List, [], ◌∷◌, Some, None, Option, ◌==◌, Ok}
+--   CommitsAlone       t commits, if it begins while none is pending and makes the only calls until its decide
+--   AloneIn, Alone     of some calls on a new register, and on every day
+use Rattle.std.specs.Prelude.{◌≡◌, ℕ, ◌<◌, true, false, cond, ◌&&◌, List, [], ◌∷◌, ◌++◌, Some, None, Option, ◌==◌, Ok}
 use Rattle.std.specs.List.{flat_map, AllByRecursion}
 use Rattle.store.specs.Stores.{Cells}
 use Rattle.store.specs.declared.cell.Cell.{Cell}
@@ -57,12 +58,10 @@ Fresh cells k = fresh_cell (cells k)
 abbrev pub Commits : Response → Type 0
 Commits r = (c : Stamp) × (r ≡ Ok (Committed c))
 
--- On any day, a transaction that begins while none is pending, and makes the only calls until its decide is accepted, commits if
--- every stamp in its cells, as its begin finds them, is below TOP.
-abbrev pub Alone : Type 0
-Alone =
-    (P : Chooses) → Meaning P → (cells : Cells) (rooms : Rooms) (earlier : List Call) (t : ℕ) (own : List Call) →
-    let before : Day = day_after P (new_day cells rooms) earlier in
+-- On a day, t begins while none is pending, and makes the calls own and no other is made until its decide, which is accepted. It is
+-- committed by that, if every stamp in its cells, as its begin finds them, is below TOP.
+abbrev pub CommitsAlone : Chooses → Day → ℕ → List Call → Type 0
+CommitsAlone P before t own =
     let after : Day = day_after P (next P before (Begin t)) own in
     NonePending before.history →
     accepted (step P before.model (Begin t)).1 ≡ true →
@@ -70,3 +69,15 @@ Alone =
     AllByRecursion (Fresh before.model.cells) (keys_of after.history t) →
     accepted (step P after.model (Decide t)).1 ≡ true →
     Commits (step P after.model (Decide t)).1
+
+-- Of some calls on a new register: wherever among them a transaction is alone from its begin to its decide, it commits.
+abbrev pub AloneIn : Chooses → Cells → Rooms → List Call → Type 0
+AloneIn P cells rooms calls =
+    (earlier own rest : List Call) (t : ℕ) → calls ≡ earlier ++ Begin t ∷ own ++ Decide t ∷ rest
+    → CommitsAlone P (day_after P (new_day cells rooms) earlier) t own
+
+-- On every day.
+abbrev pub Alone : Type 0
+Alone =
+    (P : Chooses) → Meaning P → (cells : Cells) (rooms : Rooms) (earlier : List Call) (t : ℕ) (own : List Call)
+    → CommitsAlone P (day_after P (new_day cells rooms) earlier) t own

@@ -1,18 +1,18 @@
 -- A day on which two transactions cross two grounds, one settles late and a third reads between them; and what is promised of it.
-use Rattle.std.specs.Prelude.{◌≡◌, true, false, List, [], ◌∷◌, take}
+use Rattle.std.specs.Prelude.{◌≡◌, true, false, List, [], ◌∷◌, pos, take}
 use Rattle.policy.specs.Ranges.{near_range}
 use Rattle.store.specs.Stores.{Cells}
 use Rattle.register.specs.Calls.{step}
 use Rattle.register.specs.Cases.{cells_at, calls_of, full}
-use Rattle.register.specs.LaterDays.{crossing}
+use Rattle.register.specs.AcrossGrounds.{crossing}
 use Rattle.register.specs.declared.call.Call.{Call}
-use Rattle.register.specs.declared.call.Call.TheVariants.{Begin, Read, Validate, Decide, Settle}
+use Rattle.register.specs.declared.call.Call.TheVariants.{Begin, Read, Prewrite, Validate, Decide, Settle}
 use Rattle.serial.specs.Agreement.{Alike}
 use Rattle.serial.specs.Alone.{NonePending, Commits}
 use Rattle.serial.specs.Days.{Day, new_day, next, day_after}
 use Rattle.serial.specs.Ledger.{owed}
-use Rattle.serial.specs.Serial.{values, told, serial_order}
-use Rattle.serial.specs.SerialOrder.{Tells}
+use Rattle.serial.specs.Arrangements.{values, told, serial_order}
+use Rattle.serial.specs.Serial.{Tells}
 
 -- The cells that the day begins with.
 abbrev pub morning : Cells
@@ -26,9 +26,9 @@ owing = day_after near_range (new_day morning full) (take 15 (calls_of crossing)
 abbrev pub evening : Day
 evening = day_after near_range (new_day morning full) (calls_of crossing)
 
--- A transaction begins then, meets nobody, and makes these calls.
+-- A transaction begins then, while none is pending, and makes these calls and no other is made.
 abbrev pub own_calls : List Call
-own_calls = Read 4 0 ∷ Read 4 8192 ∷ Validate 4 0 ∷ Validate 4 1 ∷ []
+own_calls = Read 4 0 ∷ Read 4 8192 ∷ Prewrite 4 0 (pos 40) ∷ Validate 4 0 ∷ Validate 4 1 ∷ []
 
 -- What is promised says this of the day.
 --   order, serial, otherwise   transactions 1, 3 and 2 tell it in this order, and not in that of their numbers

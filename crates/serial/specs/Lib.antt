@@ -1,9 +1,9 @@
 pub mod Agreement
 pub mod Alone
+pub mod Arrangements
 pub mod Crossing
 pub mod Days
 pub mod Ledger
 pub mod OnDays
 pub mod Promise
 pub mod Serial
-pub mod SerialOrder

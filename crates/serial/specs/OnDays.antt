@@ -1,14 +1,14 @@
 -- The serial run of the worked days.
---   DaysAreSerial        on each of them the serial order tells every reader what it was answered, and, where nothing is owed, ends
---                        with the values that the day's cells were worked out to hold
---   LaterDaysAreSerial   so it does on each of the later days
-use Rattle.std.specs.Prelude.{◌≡◌, ℕ, Bool, true, not, ◌&&◌, ◌||◌, List, [], ◌∷◌, ◌++◌, reverse}
+--   DaysAreSerial   on each of them the serial order tells every reader what it was answered, and, where nothing is owed, ends with
+--                   the values that the day's cells were worked out to hold
+use Rattle.std.specs.Prelude.{◌≡◌, ℕ, Bool, true, not, ◌&&◌, ◌||◌, List, [], ◌∷◌, reverse}
 use Rattle.register.specs.Cases.{Case, Figures, cells_at}
-use Rattle.register.specs.Days.{days}
-use Rattle.register.specs.LaterDays.{later_days}
+use Rattle.register.specs.AcrossGrounds.{across_grounds}
+use Rattle.register.specs.AtOneCell.{at_one_cell}
+use Rattle.register.specs.RefusedCalls.{refused_calls}
 use Rattle.register.specs.Worked.{worked}
 use Rattle.serial.specs.Ledger.{History, nothing_owed}
-use Rattle.serial.specs.Serial.{Values, values, after_all, finds, told, serial_order}
+use Rattle.serial.specs.Arrangements.{Values, values, after_all, finds, told, serial_order}
 
 -- The eight grounds.
 abbrev pub grounds : List ℕ
@@ -30,15 +30,14 @@ tells c =
     && (not (nothing_owed grounds (history_of c))
     || ends_with (after_all (history_of c) (serial_order (history_of c)) (values (cells_at c.cells))) c.ends)
 
--- Every worked case, and every longer day.
+-- It tells each case of a list.
 abbrev pub all_told : List Case → Bool
 all_told [] = true
 all_told (c ∷ cs) = tells c && all_told cs
 
--- The serial order tells each of them.
-abbrev pub DaysAreSerial : Type 0
-DaysAreSerial = all_told (worked ++ days) ≡ true
-
--- And each of the later days.
-abbrev pub LaterDaysAreSerial : Type 0
-LaterDaysAreSerial = all_told later_days ≡ true
+-- The worked cases and the longer days.
+pub record DaysAreSerial : Type 0 where
+  pub worked : all_told worked ≡ true
+  pub refused_calls : all_told refused_calls ≡ true
+  pub at_one_cell : all_told at_one_cell ≡ true
+  pub across_grounds : all_told across_grounds ≡ true

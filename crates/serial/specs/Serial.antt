@@ -1,70 +1,23 @@
--- The run over an arrangement of committed transactions, and when an arrangement tells a day.
---   told h ts vs       each accepted read of the transactions ts, in their order, was answered what it finds, from the values vs on
---   after_all h ts vs  the values at the end
---   in_order cs        commits by rising stamp, equal stamps by rising number
-use Rattle.std.specs.Prelude.{ℕ, Bool, true, false, cond, ◌&&◌, ◌||◌, List, [], ◌∷◌, map, ℤ, pos, negsuc, Some, None, Option, ◌==◌, nat_lt}
-use Rattle.std.specs.Option.{option_map}
+-- Committed transactions are serial in the order of (stamp, number).
+--   Tells cells d ts   the arrangement ts tells the day d, which began with the cells given
+--   Serial             the arrangement by rising (stamp, number) tells the day of some calls
+use Rattle.std.specs.Prelude.{◌≡◌, ℕ, true, false, List}
 use Rattle.store.specs.Stores.{Cells}
-use Rattle.serial.specs.Ledger.{History, Commit, reads_of, last_put, commits}
+use Rattle.wire.specs.Keys.{ground_of}
+use Rattle.register.specs.Model.{Chooses, Rooms}
+use Rattle.register.specs.declared.call.Call.{Call}
+use Rattle.serial.specs.Days.{Day, new_day, day_after}
+use Rattle.serial.specs.Ledger.{owed}
+use Rattle.serial.specs.Arrangements.{values, after_all, told, serial_order}
 
--- The values that cells hold.
-abbrev pub Values : Type 0
-Values = ℕ → Option ℤ
+-- Each accepted read of an arranged transaction was answered the value that it finds there; of others nothing is said. On a ground
+-- where nothing is owed every cell holds the value at the arrangement's end; so all cells do where nothing is owed at all.
+pub record Tells (cells : Cells) (d : Day) (ts : List ℕ) : Type 0 where
+  pub reads : told d.history ts (values cells) ≡ true
+  pub ends : (k : ℕ) → owed d.history (ground_of k) ≡ false → values d.model.cells k ≡ after_all d.history ts (values cells) k
 
--- The values of a register's cells.
-abbrev pub values : Cells → Values
-values cells k = option_map (λ c. c.value) (cells k)
-
--- What was put takes the place of what was there.
-abbrev pub put_over : Option ℤ → Option ℤ → Option ℤ
-put_over None old = old
-put_over (Some v) old = Some v
-
--- The values after one transaction wrote the last accepted value of each cell that it prewrote.
-abbrev pub after_one : History → ℕ → Values → Values
-after_one h t vs k = put_over (last_put h t k) (vs k)
-
--- The values after all transactions of an arrangement.
-abbrev pub after_all : History → List ℕ → Values → Values
-after_all h [] vs = vs
-after_all h (t ∷ ts) vs = after_all h ts (after_one h t vs)
-
--- Whether two values are the same.
-abbrev pub same_value : ℤ → ℤ → Bool
-same_value (pos a) (pos b) = a == b
-same_value (pos a) (negsuc b) = false
-same_value (negsuc a) (pos b) = false
-same_value (negsuc a) (negsuc b) = a == b
-
--- Whether a read finds a value.
-abbrev pub finds : Option ℤ → ℤ → Bool
-finds None v = false
-finds (Some x) v = same_value x v
-
--- Each of some reads was answered what it finds.
-abbrev pub all_found : Values → List (ℕ × ℤ) → Bool
-all_found vs [] = true
-all_found vs (p ∷ ps) = finds (vs p.0) p.1 && all_found vs ps
-
--- Each transaction makes all its reads and then its writes.
-abbrev pub told : History → List ℕ → Values → Bool
-told h [] vs = true
-told h (t ∷ ts) vs = all_found vs (reads_of h t) && told h ts (after_one h t vs)
-
--- A commit comes before another: by stamp, then by number.
-abbrev pub earlier : Commit → Commit → Bool
-earlier a b = nat_lt a.stamp b.stamp || (a.stamp == b.stamp && nat_lt a.number b.number)
-
--- A commit put in its place among others.
-abbrev pub inserted : Commit → List Commit → List Commit
-inserted c [] = c ∷ []
-inserted c (d ∷ ds) = cond (earlier c d) (c ∷ d ∷ ds) (d ∷ inserted c ds)
-
--- Commits in the order of (stamp, number).
-abbrev pub in_order : List Commit → List Commit
-in_order [] = []
-in_order (c ∷ cs) = inserted c (in_order cs)
-
--- The arrangement of the serial run.
-abbrev pub serial_order : History → List ℕ
-serial_order h = map (λ c. c.number) (in_order (commits h))
+-- Of some calls on a new register: the arrangement by rising (stamp, number) tells the day.
+abbrev pub Serial : Chooses → Cells → Rooms → List Call → Type 0
+Serial P cells rooms calls =
+    let d : Day = day_after P (new_day cells rooms) calls in
+    Tells cells d (serial_order d.history)

@@ -1,10 +1,10 @@
 ghost use Rattle.serial.specs.Agreement.{Local};
 ghost use Rattle.serial.specs.Alone.{Alone};
 ghost use Rattle.serial.specs.Crossing.{CrossingSays};
-ghost use Rattle.serial.specs.OnDays.{DaysAreSerial, LaterDaysAreSerial};
+ghost use Rattle.serial.specs.OnDays.{DaysAreSerial};
 ghost use Rattle.serial.specs.Promise.{Promise};
 
-// Whatever calls are made on a register that is new: committed transactions are serial in the order of (stamp, number), a
+// Whatever calls are made on a register that is new, under a policy that keeps its meaning: committed transactions are serial in the order of (stamp, number), a
 // transaction alone commits while stamps last, and a ground's validation depends on that ground alone.
 pub fn promise_holds()
     ensures { Promise }
@@ -20,10 +20,9 @@ pub fn validation_is_local()
     ensures { Local }
 {}
 
-// On each worked day the serial order tells every reader what it was answered.
+// On each worked day the serial order tells every reader what it was answered, and ends with the values in its cells.
 pub fn days_are_serial()
-    ensures days { DaysAreSerial }
-    ensures later { LaterDaysAreSerial }
+    ensures { DaysAreSerial }
 {}
 
 // A transaction that meets nobody commits while stamps last.

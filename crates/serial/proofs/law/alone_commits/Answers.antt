@@ -1,4 +1,4 @@
-use Rattle.serial.proofs.Alone.{alone}
+use Rattle.serial.proofs.Alone.Commits.{alone}
 use Rattle.serial.proofs.law.alone_commits.Goals as goal
 
 pub returns : goal.returns

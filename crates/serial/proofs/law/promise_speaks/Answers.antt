@@ -1,4 +1,4 @@
-use Rattle.serial.proofs.Crossing.{crossing_says}
+use Rattle.serial.proofs.Crossing.CrossingDay.{crossing_says}
 use Rattle.serial.proofs.law.promise_speaks.Goals as goal
 
 pub returns : goal.returns

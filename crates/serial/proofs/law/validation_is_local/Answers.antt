@@ -1,4 +1,4 @@
-use Rattle.serial.proofs.Alike.{local}
+use Rattle.serial.proofs.Local.Alike.{local}
 use Rattle.serial.proofs.law.validation_is_local.Goals as goal
 
 pub returns : goal.returns

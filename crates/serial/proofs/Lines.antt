@@ -1,0 +1,6 @@
+-- What lists hold, and what the books are found to hold by it.
+pub mod Found
+pub mod Kept
+pub mod Member
+pub mod ByKey
+pub mod RowKeys

@@ -1,0 +1,3 @@
+-- A ground's validation depends on that ground alone.
+pub mod Locality
+pub mod Alike

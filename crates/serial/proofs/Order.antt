@@ -1,0 +1,7 @@
+-- From the invariant to the serial order.
+pub mod Arrangement
+pub mod LastWriter
+pub mod OrderTells
+pub mod Writers
+pub mod Sources
+pub mod SerialLaw

@@ -1,0 +1,41 @@
+-- What is to hold after a call, and that it holds after a call that is refused.
+--   After                  what is to hold: the invariant, and what holds of stamps
+--   refused                it holds after a call that is refused
+--   no_stamp, no_suits     an open transaction has no stamp; so no stamp has to suit any fate of it
+use Rattle.std.proofs.Common.{◌≡◌, ℕ, ◌∷◌, Some, None, Ok, Result, ◌∙◌, Err}
+use Rattle.store.specs.Stores.{Cells}
+use Rattle.wire.proofs.Clash.{clash}
+use Rattle.wire.specs.declared.refusal.Refusal.{Refusal}
+use Rattle.register.specs.Calls.{Response}
+use Rattle.register.specs.Checks.{open_now}
+use Rattle.register.specs.Model.{Model, transaction_of}
+use Rattle.register.specs.declared.call.Call.{Call}
+use Rattle.serial.specs.Ledger.{History, commits}
+use Rattle.serial.proofs.Ledger.Fates.{Fate, stamp_of}
+use Rattle.serial.proofs.Steps.Holding.{view, Suits, Stamped, Holds}
+use Rattle.serial.proofs.Changes.Invariant.{Sound}
+use Rattle.serial.proofs.Ledger.LinkedLines.{open_stamp}
+use Rattle.serial.proofs.Outcomes.Checks.{Out}
+use Rattle.serial.proofs.Ledger.Silent.{refused_silent, silent_sound}
+use Rattle.serial.proofs.Steps.StampedSteps.{silent_stamped}
+
+module _ (first : Cells) (h : History) where
+  -- The invariant after a call, and what holds of stamps.
+  abbrev pub After : {B : Type 0} → Call → (Result B Refusal → Response) → Out B → Type 0
+  After c f o = Sound first (view ((c, f o.1) ∷ h) o.0) × Stamped ((c, f o.1) ∷ h)
+
+module _ (first : Cells) (m : Model) (h : History) (H : Holds first h m) where
+  -- An open transaction has no stamp.
+  pub no_stamp : (t : ℕ) → open_now m t ≡ Ok tt → stamp_of h t ≡ None
+  no_stamp t now = H.linked.stamps t ∙ open_stamp (transaction_of m t) now
+
+  -- So whatever its fate becomes, no stamp has to suit it.
+  pub no_suits : (t : ℕ) (f : Fate) → open_now m t ≡ Ok tt → (c : ℕ) → stamp_of h t ≡ Some c → Suits c f
+  no_suits t f now c i = let n = no_stamp t now in clash cc
+
+  -- A refused call leaves the invariant, and what holds of stamps.
+  pub refused : (c : Call) → ((e : Refusal) → commits ((c, Err e) ∷ h) ≡ commits h) → (e : Refusal)
+      → Sound first (view ((c, Err e) ∷ h) m) × Stamped ((c, Err e) ∷ h)
+  refused c same e =
+      let q = refused_silent h c e in
+      (silent_sound first m h (c, Err e) q H.sound, silent_stamped h H.stamped (c, Err e) q (same e))
