@@ -8,8 +8,8 @@
 --   NoneAbove o k ks     none of the keys ks is above k
 --   Added x b d r        adding x to the book b left the book d and answered r
 --   Replaced i x b d r   replacing the line i of b by x left d and answered r
---   Stays b d            b and d have the same limit and room, and lie in the same memory
-use Rattle.std.specs.Prelude.{◌≡◌, ℕ, ◌<◌, ◌≤◌, min, Bool, true, false, cond, List, [], ◌∷◌, ◌++◌, length, take, Some, None, Ok, Err, Option, Result, slice_set}
+--   Stays b d            d has the limit, the room and the memory of b, and nothing was written past the lines it holds
+use Rattle.std.specs.Prelude.{◌≡◌, ℕ, ◌<◌, ◌≤◌, min, Bool, true, false, cond, List, [], ◌∷◌, ◌++◌, length, take, drop, Some, None, Ok, Err, Option, Result, slice_set}
 use Rattle.std.specs.declared.cmp.Ordering.{Ordering}
 use Rattle.std.specs.Ordering.{is_lt}
 use Rattle.std.specs.List.{AllByRecursion, position_from, find, fold, reduce}
@@ -30,11 +30,14 @@ room b = min b.limit (length (memory b))
 abbrev pub held : {L : Type 0} → Book L → List L
 held b = take b.count (memory b)
 
--- Limit, room and memory are the same. The memory goes by its name, so that its lender learns what it holds in the end.
+-- Limit and room are the same, and the book lies in the same memory, which goes by its name. No line is taken away, and past the lines
+-- that are held then nothing is written.
 pub record Stays {L : Type 0} (b d : Book L) : Type 0 where
   pub limit : d.limit ≡ b.limit
   pub room : room d ≡ room b
   pub named : d.lines.ghost_name ≡ b.lines.ghost_name
+  pub kept : b.count ≤ d.count
+  pub past : drop d.count (memory d) ≡ drop d.count (memory b)
 
 -- With room left the line is written right after the lines held, and nothing else is; without, nothing changes.
 abbrev pub Added : {L : Type 0} → L → Book L → Book L → Result Unit Refusal → Type 0

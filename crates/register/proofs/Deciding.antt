@@ -2,7 +2,7 @@
 use Rattle.std.proofs.Common.{◌≡◌, List, [], ◌∷◌, map, fold, refl, ap}
 use Rattle.std.specs.Int.{int_max, int_min}
 use Rattle.lines.specs.declared.row.Row.{Row}
-use Rattle.register.specs.Deciding.{any_stamp, allowed_with, allowed_by}
+use Rattle.register.specs.Allowed.{any_stamp, allowed_with, allowed_by}
 use Rattle.register.specs.Decisions.{largest_lower, smallest_upper, decision_in}
 use Rattle.register.specs.declared.range.Range.{Range}
 

@@ -13,8 +13,7 @@ use Rattle.lines.specs.declared.row.Row.{Row}
 use Rattle.lines.specs.declared.row.State.{State}
 use Rattle.register.proofs.RowBook.{bounded_row}
 use Rattle.register.proofs.RowPlaces.{row_at}
-use Rattle.register.specs.Validation.{other_party, effect_with}
-use Rattle.register.specs.Among.{effect_among}
+use Rattle.register.specs.Among.{effect_among, other_party, effect_with}
 use Rattle.register.specs.Findings.{FitsEffect, place_of}
 
 -- Nothing follows where the other party has no row.

@@ -15,8 +15,7 @@ use Rattle.lines.specs.declared.note.Effect.TheVariants.{LowerBelow, RaiseAbove,
 use Rattle.lines.specs.declared.note.Note.{Note}
 use Rattle.lines.specs.declared.row.Row.{Row}
 use Rattle.register.specs.Findings.{unmarked, unfound, with_any, noted, place_of, marks_among, Marked}
-use Rattle.register.specs.Validation.{raised_above, lowered_below, other_party, effect_floor, effect_ceiling, is_before, is_after}
-use Rattle.register.specs.Among.{effect_among, joins_among}
+use Rattle.register.specs.Among.{effect_among, joins_among, raised_above, lowered_below, other_party, effect_floor, effect_ceiling, is_before, is_after}
 use Rattle.register.specs.declared.range.Range.{Range}
 use Rattle.register.specs.declared.validation.findings.Findings.{Findings}
 use Rattle.register.specs.declared.validation.findings.Marks.{Marks}

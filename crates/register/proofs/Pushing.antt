@@ -4,7 +4,7 @@
 --   push_all          all have
 --   nth_holds         what holds of all lines holds of the one at a place
 --   pushed_bounded    a row within its limits stays within them
-use Rattle.std.proofs.Common.{◌≡◌, ℕ, ◌+◌, ◌<◌, ◌≤◌, Bool, true, false, List, ◌++◌, map, length, get_or, take, drop, set, ℤ, pos, ◌≤ℤ◌, Some, sym, ap, ◌∙◌, subst, append-nil, arith}
+use Rattle.std.proofs.Common.{◌≡◌, ℕ, ◌+◌, ◌<◌, ◌≤◌, Bool, true, false, List, ◌++◌, map, length, get_or, take, drop, set, ℤ, pos, ◌≤ℤ◌, Some, sym, ap, ◌∙◌, subst, append-nil, arith, ◌-◌, drop-drop}
 use Rattle.std.proofs.lemmas.List.Edits.{map_over_more}
 use Rattle.std.proofs.ByRecursion.{All-get_or}
 use Rattle.std.proofs.lemmas.List.{get_or_at, length-map, length-take-le, drop_more, take_all, drop_all}
@@ -20,9 +20,21 @@ use Rattle.register.specs.Findings.{unmarked}
 use Rattle.register.specs.declared.validation.findings.Marks.{Marks}
 use Rattle.register.proofs.Gathering.{shown_at}
 
+-- Lists that are the same past a place are the same past a later one.
+past_more : {X : Type 0} (xs ys : List X) (n m : ℕ) → drop n ys ≡ drop n xs → n ≤ m → drop m ys ≡ drop m xs
+past_more xs ys n m e l =
+    let more : n + (m - n) ≡ m = omega arith in
+    subst (λ i. drop i ys ≡ drop i xs) more (sym (drop-drop (m - n) n ys) ∙ ap (drop (m - n)) e ∙ drop-drop (m - n) n xs)
+
 -- What stays over one call and over the next stays over both.
 pub stays_on : {L : Type 0} (a b d : Book L) → Stays a b → Stays b d → Stays a d
-stays_on a b d s u = record { limit = u.limit ∙ s.limit; room = u.room ∙ s.room; named = u.named ∙ s.named }
+stays_on a b d s u = record {
+  limit = u.limit ∙ s.limit;
+  room = u.room ∙ s.room;
+  named = u.named ∙ s.named;
+  kept = let h = s.kept in let k = u.kept in omega arith;
+  past = u.past ∙ past_more a.lines.now b.lines.now b.count d.count s.past u.kept;
+}
 
 module _ (p : Row → Marks) (range : ℤ × ℤ) (xs : List Row) where
   -- A row that makes way as its marks say.

@@ -16,19 +16,8 @@ use Rattle.lines.specs.declared.access.ReadLine.{ReadLine}
 use Rattle.lines.specs.declared.access.WriteLine.{WriteLine}
 use Rattle.register.specs.Model.{Model}
 use Rattle.register.specs.Ranges.{above, above_all}
-use Rattle.register.specs.Validation.{
-  raise,
-  lower,
-  raised_above,
-  lowered_below,
-  of_here,
-  read_floor,
-  stamps_of,
-  write_floor,
-  note_effect,
-  effect_floor,
-  floors,
-}
+use Rattle.register.specs.Among.{raise, lower, raised_above, lowered_below, effect_floor}
+use Rattle.register.specs.Validation.{of_here, read_floor, stamps_of, write_floor, note_effect, floors}
 use Rattle.register.specs.declared.range.Range.{Range}
 
 -- Raising above some numbers and others is raising above the first, then above the others.

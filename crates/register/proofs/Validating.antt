@@ -15,7 +15,8 @@ use Rattle.policy.specs.Ranges.{Within}
 use Rattle.register.specs.Calls.{validate}
 use Rattle.register.specs.Checks.{open_now, running}
 use Rattle.register.specs.Model.{Model, Chooses, with_rows}
-use Rattle.register.specs.Validation.{raised_above, lowered_below, floors, ceilings, befores, afters, failed, passed}
+use Rattle.register.specs.Among.{raised_above, lowered_below}
+use Rattle.register.specs.Validation.{floors, ceilings, befores, afters, failed, passed}
 use Rattle.register.proofs.Raising.{raised_least, lowered_most}
 
 -- A row that is found is of the transaction and ground that it was sought by.

@@ -1,9 +1,10 @@
 -- All worked cases hold.
---   CasesHold   the worked cases and the longer days, what some of them leave in the books, and the two extreme values
-use Rattle.std.specs.Prelude.{◌≡◌, pos, negsuc, Ok}
+--   all_cases   the worked cases and the longer days
+--   CasesHold   each of them holds; what some of them leave in the books, and the two extreme values
+use Rattle.std.specs.Prelude.{◌≡◌, List, ◌++◌, pos, negsuc, Ok}
 use Rattle.std.specs.List.{AllByRecursion}
 use Rattle.wire.specs.Words.{value_in, value_word}
-use Rattle.register.specs.Cases.{Holds}
+use Rattle.register.specs.Cases.{Case, Holds}
 use Rattle.register.specs.AcrossGrounds.{across_grounds}
 use Rattle.register.specs.AtOneCell.{at_one_cell}
 use Rattle.register.specs.BooksLeft.{BooksLeft}
@@ -17,11 +18,12 @@ pub record Extremes : Type 0 where
   pub lowest_word : value_word (negsuc 32767) ≡ 2415951872
   pub highest_word : value_word (pos 32767) ≡ 2415951871
 
--- Every case of each list.
+-- Every case.
+abbrev pub all_cases : List Case
+all_cases = worked ++ refused_calls ++ at_one_cell ++ across_grounds
+
+-- All of them, the rows and notes that are told of some, and the two values.
 pub record CasesHold : Type 0 where
-  pub worked : AllByRecursion Holds worked
-  pub refused_calls : AllByRecursion Holds refused_calls
-  pub at_one_cell : AllByRecursion Holds at_one_cell
-  pub across_grounds : AllByRecursion Holds across_grounds
+  pub cases : AllByRecursion Holds all_cases
   pub books : BooksLeft
   pub values : Extremes

@@ -1,20 +1,81 @@
--- What a validation of transaction t at ground g works out, by lists of rows and notes: for code that has no more of a register at
--- hand. Of a register's own lists they compute to what Validation says of the register.
+-- What notes mean for a validation of transaction t at ground g, by lists of rows and notes.
+--   raised_above, lowered_below     a bound raised above each of some numbers, or lowered below each
 --   effect_among rows t g n         what follows from the note n
 --   note_floors, note_ceilings      what the notes raise the range above, and what they lower it below
 --   joins_among                     whether some note puts a row on a list
 --   befores_among, afters_among     the lowers of the before rows and the uppers of the after rows
 --   pushed_by, pushed_among         a row after a range was taken
-use Rattle.std.specs.Prelude.{ℕ, Bool, cond, ◌&&◌, List, map, ℤ, None, filter, Option, ◌==◌}
+use Rattle.std.specs.Prelude.{ℕ, Bool, true, false, cond, ◌&&◌, List, [], ◌∷◌, map, ℤ, pos, ◌+ℤ◌, ◌-ℤ◌, Some, None, filter, Option, ◌==◌}
+use Rattle.std.specs.Int.{int_max, int_min}
 use Rattle.std.specs.List.{flat_map}
+use Rattle.std.specs.Option.{option_and_then}
 use Rattle.wire.specs.Keys.{ground_of}
 use Rattle.lines.specs.Locks.{row_of}
+use Rattle.lines.specs.Notes.{effect_of}
 use Rattle.lines.specs.Rows.{with_bounds}
 use Rattle.lines.specs.declared.note.Effect.{Effect}
+use Rattle.lines.specs.declared.note.Effect.TheVariants.{LowerBelow, RaiseAbove, JoinBefore, JoinAfter}
 use Rattle.lines.specs.declared.note.Note.{Note}
 use Rattle.lines.specs.declared.row.Row.{Row}
 use Rattle.register.specs.Checks.{any}
-use Rattle.register.specs.Validation.{other_party, effect_with, effect_floor, effect_ceiling, is_before, is_after, raise, lower}
+
+-- Raise a lower bound above x.
+abbrev pub raise : ℤ → ℤ → ℤ
+raise l x = int_max l (x +ℤ pos 1)
+
+-- Lower an upper bound below x.
+abbrev pub lower : ℤ → ℤ → ℤ
+lower u x = int_min u (x -ℤ pos 1)
+
+-- Raise a lower bound above each of some numbers.
+abbrev pub raised_above : ℤ → List ℤ → ℤ
+raised_above l [] = l
+raised_above l (x ∷ xs) = raised_above (raise l x) xs
+
+-- Lower an upper bound below each of some numbers.
+abbrev pub lowered_below : ℤ → List ℤ → ℤ
+lowered_below u [] = u
+lowered_below u (x ∷ xs) = lowered_below (lower u x) xs
+
+-- The other party of a note.
+abbrev pub other_party : Note → ℕ → ℕ
+other_party n t = cond (n.first == t) n.second n.first
+
+-- What follows from a note whose other party has this row at the ground.
+abbrev pub effect_with : Note → ℕ → Option Row → Option Effect
+effect_with n t o = option_and_then (effect_of n t) o
+
+-- The bound that what follows from a note raises the range above, if it does.
+abbrev pub effect_floor : Option Effect → List ℤ
+effect_floor None = []
+effect_floor (Some (LowerBelow x)) = []
+effect_floor (Some (RaiseAbove x)) = x ∷ []
+effect_floor (Some JoinBefore) = []
+effect_floor (Some JoinAfter) = []
+
+-- The bound that it lowers the range below, if it does.
+abbrev pub effect_ceiling : Option Effect → List ℤ
+effect_ceiling None = []
+effect_ceiling (Some (LowerBelow x)) = x ∷ []
+effect_ceiling (Some (RaiseAbove x)) = []
+effect_ceiling (Some JoinBefore) = []
+effect_ceiling (Some JoinAfter) = []
+
+-- Whether it puts the other row on the before list.
+abbrev pub is_before : Option Effect → Bool
+is_before None = false
+is_before (Some (LowerBelow x)) = false
+is_before (Some (RaiseAbove x)) = false
+is_before (Some JoinBefore) = true
+is_before (Some JoinAfter) = false
+
+-- Whether it puts the other row on the after list.
+abbrev pub is_after : Option Effect → Bool
+is_after None = false
+is_after (Some (LowerBelow x)) = false
+is_after (Some (RaiseAbove x)) = false
+is_after (Some JoinBefore) = false
+is_after (Some JoinAfter) = true
 
 -- What follows from a note; notes of other grounds say nothing here.
 abbrev pub effect_among : List Row → ℕ → ℕ → Note → Option Effect

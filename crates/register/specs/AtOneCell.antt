@@ -136,4 +136,5 @@ seen_then = record {
 -- All of them.
 abbrev pub at_one_cell : List Case
 at_one_cell =
-    read_then_written ∷ after_a_reader ∷ after_a_writer ∷ before_rows ∷ pushed_up ∷ pushed_down ∷ aborted_ignored ∷ withdrawn ∷ withdrawn_beside ∷ seen_then ∷ []
+    read_then_written ∷ after_a_reader ∷ after_a_writer ∷ before_rows ∷
+    pushed_up ∷ pushed_down ∷ aborted_ignored ∷ withdrawn ∷ withdrawn_beside ∷ seen_then ∷ []

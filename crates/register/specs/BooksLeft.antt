@@ -1,6 +1,6 @@
 -- What some cases leave in the books, where docs/cases.md tells of bounds and notes.
 --   Leaves c rows notes   the case c leaves these rows and these notes
-use Rattle.std.specs.Prelude.{◌≡◌, ℕ, List, [], ◌∷◌, ℤ, pos}
+use Rattle.std.specs.Prelude.{◌≡◌, ℕ, List, [], ◌∷◌, pos}
 use Rattle.lines.specs.Rows.{new_row, with_bounds}
 use Rattle.lines.specs.declared.note.Note.{Note}
 use Rattle.lines.specs.declared.row.Row.{Row}

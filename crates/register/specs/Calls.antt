@@ -1,7 +1,7 @@
 -- The seven calls: the register and the answer after each, with its checks in their order.
 --   begin, read, prewrite, validate, decide, withdraw, settle
---   step P m c    the register and the reply after the call c, under the policy P
---   left_by, replies   the register after some calls, and their replies
+--   step P m c           the register and the response after the call c, under the policy P
+--   left_by, responses   the register after some calls, and their responses
 use Rattle.std.specs.Prelude.{ℕ, cond, List, [], ◌∷◌, ◌++◌, length, ℤ, Some, None, Ok, Err, Option, Result, int_lt}
 use Rattle.store.specs.declared.cell.Cell.{Cell}
 use Rattle.wire.specs.Keys.{ground_of}
@@ -26,7 +26,7 @@ use Rattle.register.specs.Checks.{
   cell_here,
   row_here,
   running,
-  unless_past,
+  unless_stopped,
   unwritten,
   none_running,
   has_room,
@@ -35,7 +35,8 @@ use Rattle.register.specs.Checks.{
 use Rattle.register.specs.Decisions.{decision_by, decided_as, settled}
 use Rattle.register.specs.Model.{Model, Chooses, with_transactions, with_writes, replaced, read_of, write_of}
 use Rattle.register.specs.Noting.{new_rows, notes_of_read, notes_of_prewrite, read_added, prewrite_added}
-use Rattle.register.specs.Validation.{raised_above, lowered_below, floors, ceilings, befores, afters, failed, passed}
+use Rattle.register.specs.Among.{raised_above, lowered_below}
+use Rattle.register.specs.Validation.{floors, ceilings, befores, afters, failed, passed}
 use Rattle.register.specs.declared.call.Call.{Call}
 use Rattle.register.specs.declared.call.Call.TheVariants.{Begin, Read, Prewrite, Validate, Decide, Withdraw, Settle}
 use Rattle.register.specs.declared.call.Reply.{Reply}
@@ -60,7 +61,7 @@ abbrev pub read : Model → ℕ → ℕ → Model × Result (ℤ × Stamp) Refus
 read m t k =
     after m (open_now m t) (λ _.
     after m (cell_here (m.cells k)) (λ c.
-    after m (unless_past (row_of m.rows t (ground_of k))) (λ _.
+    after m (unless_stopped (row_of m.rows t (ground_of k))) (λ _.
     after m (unwritten m t) (λ _.
     read_by (read_of m t k) m t k c))))
 
@@ -80,7 +81,7 @@ abbrev pub prewrite : Model → ℕ → ℕ → ℤ → Model × Result Unit Ref
 prewrite m t k v =
     after m (open_now m t) (λ _.
     after m (cell_here (m.cells k)) (λ _.
-    after m (unless_past (row_of m.rows t (ground_of k))) (λ _.
+    after m (unless_stopped (row_of m.rows t (ground_of k))) (λ _.
     prewrite_by (write_of m t k) m t k v)))
 
 -- A validation that passed, with the range that the policy chose.
@@ -183,6 +184,6 @@ left_by P m [] = m
 left_by P m (c ∷ cs) = left_by P (step P m c).0 cs
 
 -- Their responses.
-abbrev pub replies : Chooses → Model → List Call → List Response
-replies P m [] = []
-replies P m (c ∷ cs) = (step P m c).1 ∷ replies P (step P m c).0 cs
+abbrev pub responses : Chooses → Model → List Call → List Response
+responses P m [] = []
+responses P m (c ∷ cs) = (step P m c).1 ∷ responses P (step P m c).0 cs

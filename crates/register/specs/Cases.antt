@@ -1,5 +1,5 @@
 -- A worked case: calls on a new register, each with the reply that it should get.
---   Case                  the first cells, the rooms, the policy, the calls with their replies, and some cells at the end
+--   Case                  the first cells, the rooms, the policy, the calls with their responses, and some cells at the end
 --   outcome c, wanted c   what the model makes of a case, and what the case says of it
 --   Holds c               these are the same
 use Rattle.std.specs.Prelude.{◌≡◌, ℕ, cond, List, [], ◌∷◌, map, ℤ, pos, Some, None, Ok, Err, Option, ◌==◌}
@@ -8,7 +8,7 @@ use Rattle.store.specs.Stores.{Cells}
 use Rattle.store.specs.declared.cell.Cell.{Cell}
 use Rattle.wire.specs.Refusals.{number_of}
 use Rattle.wire.specs.Stamps.{stamp}
-use Rattle.register.specs.Calls.{Response, left_by, replies}
+use Rattle.register.specs.Calls.{Response, left_by, responses}
 use Rattle.register.specs.Model.{Chooses, Model, Rooms, new}
 use Rattle.register.specs.declared.call.Call.{Call}
 use Rattle.register.specs.declared.call.Reply.TheVariants.{Done, Value, Range, Committed, Aborted}
@@ -62,13 +62,13 @@ abbrev pub commit : ℕ → Response
 commit c = Ok (Committed (stamp c))
 
 -- A response as numbers, so that two compare by their stamps' numbers: which reply or refusal it is, and what it holds.
-abbrev pub told : Response → List ℤ
-told (Ok Done) = pos 0 ∷ []
-told (Ok (Value v s)) = pos 1 ∷ v ∷ pos s.number ∷ []
-told (Ok (Range l u)) = pos 2 ∷ l ∷ u ∷ []
-told (Ok (Committed s)) = pos 3 ∷ pos s.number ∷ []
-told (Ok Aborted) = pos 4 ∷ []
-told (Err r) = pos 5 ∷ pos (number_of r) ∷ []
+abbrev pub as_numbers : Response → List ℤ
+as_numbers (Ok Done) = pos 0 ∷ []
+as_numbers (Ok (Value v s)) = pos 1 ∷ v ∷ pos s.number ∷ []
+as_numbers (Ok (Range l u)) = pos 2 ∷ l ∷ u ∷ []
+as_numbers (Ok (Committed s)) = pos 3 ∷ pos s.number ∷ []
+as_numbers (Ok Aborted) = pos 4 ∷ []
+as_numbers (Err r) = pos 5 ∷ pos (number_of r) ∷ []
 
 -- Cells at the keys that a list names, and nothing at others.
 abbrev pub cells_at : List (ℕ × Cell) → Cells
@@ -79,17 +79,17 @@ cells_at (p ∷ ps) k = cond (k == p.0) (Some p.1) (cells_at ps k)
 abbrev pub calls_of : Case → List Call
 calls_of c = map (λ p. p.0) c.script
 
--- What the model makes of a case: the replies, and the cells at the keys that the case looks at in the end.
+-- What the model makes of a case: the responses, and the cells at the keys that the case looks at in the end.
 abbrev pub outcome : Case → List (List ℤ) × List (Option Figures)
 outcome c =
     let start : Model = new (cells_at c.cells) c.rooms in (
-      map told (replies c.policy start (calls_of c)),
+      map as_numbers (responses c.policy start (calls_of c)),
       map (λ p. option_map figures ((left_by c.policy start (calls_of c)).cells p.0)) c.ends,
     )
 
 -- What the case says of it.
 abbrev pub wanted : Case → List (List ℤ) × List (Option Figures)
-wanted c = (map (λ p. told p.1) c.script, map (λ p. Some p.1) c.ends)
+wanted c = (map (λ p. as_numbers p.1) c.script, map (λ p. Some p.1) c.ends)
 
 -- The model makes of a case what the case says.
 abbrev pub Holds : Case → Type 0

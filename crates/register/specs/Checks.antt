@@ -4,14 +4,16 @@
 --   decided_now       refusals 3 and 9: what the decision of one that is decided means for its rows
 --   row_here          refusal 6: the transaction's row at a ground
 --   running           refusal 5: that row is Running
---   unless_past       refusal 5: there is no row yet, or it is Running
+--   unless_stopped    refusal 5: there is no row yet, or it is Running
 --   unwritten         refusal 7: the transaction has prewritten nothing
+--   lets_pass r       the check that r makes, whatever it finds
 --   is_write_of t w   w is a write line of the transaction t
+--   is_own t r        r is a row of the transaction t; is_running_own that it is Running too
 --   none_running      refusal 8: none of its rows is Running
 --   cell_here         refusal 11: the cell of a key
 --   new_number        refusal 1: a number above all begun, up to 4,095
 --   room_for          refusal 2: room for so many more lines
-use Rattle.std.specs.Prelude.{ℕ, ◌+◌, Bool, true, false, cond, ◌&&◌, List, map, length, Some, None, Ok, Err, Option, Result, ◌==◌, nat_eq, nat_le, nat_lt}
+use Rattle.std.specs.Prelude.{ℕ, ◌+◌, Bool, true, false, cond, ◌&&◌, List, map, length, Some, None, Ok, Err, Option, Result, ◌==◌, nat_le, nat_lt}
 -- Some line passes a test.
 pub use Rattle.std.specs.List.{list_any as any}
 use Rattle.std.specs.Option.{unwrap_or}
@@ -117,9 +119,14 @@ abbrev pub running : Row → Result Unit Refusal
 running r = unless (is_running r.state) NotRunning
 
 -- No row yet, or one that is Running.
-abbrev pub unless_past : Option Row → Result Unit Refusal
-unless_past None = Ok tt
-unless_past (Some r) = running r
+abbrev pub unless_stopped : Option Row → Result Unit Refusal
+unless_stopped None = Ok tt
+unless_stopped (Some r) = running r
+
+-- What a check that also finds something lets pass.
+abbrev pub lets_pass : {A : Type 0} → Result A Refusal → Result Unit Refusal
+lets_pass (Ok x) = Ok tt
+lets_pass (Err e) = Err e
 
 -- A write line of a transaction.
 abbrev pub is_write_of : ℕ → WriteLine → Bool
@@ -127,11 +134,19 @@ is_write_of t w = w.transaction == t
 
 -- The transaction has no write line, at any ground.
 abbrev pub unwritten : Model → ℕ → Result Unit Refusal
-unwritten m t = cond (any (λ w. nat_eq w.transaction t) m.writes) (Err ReadAfterPrewrite) (Ok tt)
+unwritten m t = cond (any (is_write_of t) m.writes) (Err ReadAfterPrewrite) (Ok tt)
+
+-- A row of the transaction.
+abbrev pub is_own : ℕ → Row → Bool
+is_own t r = r.transaction == t
+
+-- A row of the transaction that is Running.
+abbrev pub is_running_own : ℕ → Row → Bool
+is_running_own t r = is_own t r && is_running r.state
 
 -- No row of the transaction, at any ground, is Running.
 abbrev pub none_running : Model → ℕ → Result Unit Refusal
-none_running m t = cond (any (λ r. (r.transaction == t) && is_running r.state) m.rows) (Err StillRunning) (Ok tt)
+none_running m t = cond (any (is_running_own t) m.rows) (Err StillRunning) (Ok tt)
 
 -- Room for n more lines beside those there are.
 abbrev pub has_room : {L : Type 0} → List L → ℕ → ℕ → Bool

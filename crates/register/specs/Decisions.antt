@@ -17,13 +17,13 @@ use Rattle.lines.specs.declared.row.Event.TheVariants.{Pass, Fail, Abort, Commit
 use Rattle.lines.specs.declared.row.Row.{Row}
 use Rattle.lines.specs.declared.transaction.Decision.{Decision}
 use Rattle.lines.specs.declared.transaction.Decision.TheVariants.{Committed, Aborted}
-use Rattle.register.specs.Checks.{any, is_aborted}
+use Rattle.register.specs.Checks.{any, is_aborted, is_own}
 use Rattle.register.specs.Model.{Model, with_transactions, replaced, read_of, write_of}
 use Rattle.register.specs.Validation.{row_moved}
 
 -- The rows of a transaction.
 abbrev pub rows_of : Model → ℕ → List Row
-rows_of m t = filter (λ r. eqb r.transaction t) m.rows
+rows_of m t = filter (is_own t) m.rows
 
 -- The largest lower bound, 0 where there is no row.
 abbrev pub largest_lower : List Row → ℤ

@@ -4,13 +4,14 @@
 --   marks_at f i           the marks that f has at the place i
 --   with_effect i e f      the findings f with what follows from the effect e of a note whose other party's row has the place i
 --   with_any i e f         the same where there may be no effect
---   FitsEffect e           the bound of the effect e is one that a row can have
+--   FitsEffect e           the bound of the effect e is on the side where nothing overflows
 --   place_of rows t g      the place of the row of transaction t at ground g, or nothing
 --   Placed rows t g r      r is the row of transaction t at ground g with its place, or nothing
 --   noted rows t g f n     the findings f with what follows from the note n
 --   marks_among            which of the two lists some note puts a row on
 --   Marked rows notes t g f   the marks of f are those of the rows that the notes put on the before list and on the after list
---   MadeWay, TookRange   the rows after the marked ones made way, and after the range was taken
+--   MadeWay, TookRange     the rows after the marked ones made way, and after the range was taken
+--   BeforesOf, AftersOf    the bounds of the marked rows that a policy is shown
 --   Located rows t g n r   r is what follows from the note n with the place of the other party's row, or nothing
 use Rattle.std.specs.Prelude.{◌≡◌, ℕ, ◌<◌, true, false, List, map, length, take, replicate, ℤ, pos, ◌≤ℤ◌, Some, None, Option, slice_index_or, slice_set}
 use Rattle.std.specs.Option.{unwrap_or}
@@ -23,8 +24,8 @@ use Rattle.lines.specs.declared.note.Note.{Note}
 use Rattle.lines.specs.declared.row.Event.TheVariants.{Pass}
 use Rattle.lines.specs.declared.row.Row.{Row}
 use Rattle.register.specs.Ranges.{above, below}
-use Rattle.register.specs.Validation.{other_party, is_before, is_after, row_moved}
-use Rattle.register.specs.Among.{effect_among, joins_among, befores_among, afters_among, pushed_among}
+use Rattle.register.specs.Validation.{row_moved}
+use Rattle.register.specs.Among.{effect_among, joins_among, befores_among, afters_among, pushed_among, other_party, is_before, is_after}
 use Rattle.register.specs.declared.range.Range.{Range}
 use Rattle.register.specs.declared.validation.findings.Findings.{Findings}
 use Rattle.register.specs.declared.validation.findings.Marks.{Marks}
@@ -87,21 +88,21 @@ marks_among rows notes t g r = record { before = joins_among is_before rows note
 abbrev pub Marked : List Row → List Note → (t g : ℕ) → Findings → Type 0
 Marked rows notes t g f = take (length rows) f.marks ≡ map (marks_among rows notes t g) rows
 
--- The rows after the marked ones made way for a range.
+-- The rows after the marked ones made way for a range, where the marks come of some notes for some transaction and ground.
 abbrev pub MadeWay : List Row → Findings → ℤ × ℤ → List Row → Type 0
 MadeWay rows f range after =
     (notes : List Note) (t g : ℕ) → Marked rows notes t g f → after ≡ map (pushed_among rows notes t g range) rows
 
--- The rows after that, with the range in a row of their own.
+-- The same, with the range in the row r after that.
 abbrev pub TookRange : List Row → Row → Findings → ℤ × ℤ → List Row → Type 0
 TookRange rows r f range after =
     (notes : List Note) (t g : ℕ) → Marked rows notes t g f
     → after ≡ row_moved r.transaction r.ground r (Pass range.0 range.1) (map (pushed_among rows notes t g range) rows)
 
--- These are the lowers of the rows that are marked before.
+-- These are the lowers of the before rows, where the marks come of some notes for some transaction and ground.
 abbrev pub BeforesOf : List Row → Findings → List ℤ → Type 0
 BeforesOf rows f b = (notes : List Note) (t g : ℕ) → Marked rows notes t g f → b ≡ befores_among rows notes t g
 
--- These are the uppers of the rows that are marked after.
+-- These are the uppers of the after rows, where they do.
 abbrev pub AftersOf : List Row → Findings → List ℤ → Type 0
 AftersOf rows f b = (notes : List Note) (t g : ℕ) → Marked rows notes t g f → b ≡ afters_among rows notes t g

@@ -1,12 +1,12 @@
 pub mod AcrossGrounds
 pub mod AllCases
+pub mod Allowed
 pub mod Among
 pub mod AtOneCell
 pub mod BooksLeft
 pub mod Calls
 pub mod Cases
 pub mod Checks
-pub mod Deciding
 pub mod Decisions
 pub mod Findings
 pub mod Meetings

@@ -4,7 +4,7 @@
 --   above_all r xs           those that lie above each of some numbers
 use Rattle.std.specs.Prelude.{List, ℤ}
 use Rattle.lines.specs.declared.row.Row.{Row}
-use Rattle.register.specs.Validation.{raise, lower, raised_above}
+use Rattle.register.specs.Among.{raise, lower, raised_above}
 use Rattle.register.specs.declared.range.Range.{Range}
 
 -- From its lower to its upper bound.

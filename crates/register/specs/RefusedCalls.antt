@@ -1,7 +1,19 @@
 -- Days that meet every refusal that a call can give, each in its place among the checks; the answers are worked out by hand.
 use Rattle.std.specs.Prelude.{List, [], ◌∷◌, pos, Err}
 use Rattle.policy.specs.Ranges.{whole_range, near_range}
-use Rattle.wire.specs.declared.refusal.Refusal.TheVariants.{BadNumber, NoRoom, NeverBegun, AlreadyDecided, NotRunning, NoRow, ReadAfterPrewrite, StillRunning, NotDecided, AlreadySettled, NoSuchKey}
+use Rattle.wire.specs.declared.refusal.Refusal.TheVariants.{
+  BadNumber,
+  NoRoom,
+  NeverBegun,
+  AlreadyDecided,
+  NotRunning,
+  NoRow,
+  ReadAfterPrewrite,
+  StillRunning,
+  NotDecided,
+  AlreadySettled,
+  NoSuchKey,
+}
 use Rattle.register.specs.declared.call.Call.TheVariants.{Begin, Read, Prewrite, Validate, Decide, Withdraw, Settle}
 use Rattle.register.specs.Cases.{Case, cell, full, top, value, range, commit, abort, ok}
 
@@ -141,4 +153,5 @@ room_of_each_book = record {
 -- All of them.
 abbrev pub refused_calls : List Case
 refused_calls =
-    numbers ∷ never_begun ∷ order_of_checks ∷ earlier_check ∷ one_row_aborted ∷ read_again ∷ prewrite_again ∷ little_room ∷ room_of_each_book ∷ []
+    numbers ∷ never_begun ∷ order_of_checks ∷ earlier_check ∷ one_row_aborted ∷
+    read_again ∷ prewrite_again ∷ little_room ∷ room_of_each_book ∷ []

@@ -2,9 +2,9 @@
 --   model cells r      its cells, the lines that its books hold, and their rooms
 --   rooms_in a b ..    the rooms of books in memories of these lengths
 --   Lent b m           the book b lies in the memory m, which is as it was
---   Keeps lent r s     what every call keeps: s has the policy of r, and lies in the same memory
---   KeepsButTransactions r s   s differs from r in transaction lines only
---   KeepsButRows r s   s differs from r in rows only
+--   Keeps lent r s     what every call keeps: the policy, where all lies, and the memory past the lines held
+--   KeepsButTransactions r s   s has the store of r, and its books but for the transactions
+--   KeepsButRows r s   s has the store of r, and its books but for the rows
 --   Takes cells chosen r f range   the policy takes the range of what was found
 use Rattle.std.specs.Prelude.{◌≡◌, ℕ, min, List, ℤ}
 use Rattle.std.specs.Borrow.{MutBor}
@@ -50,7 +50,8 @@ pub record Lent {L : Type 0} (b : Book L) (m : MutBor (List L)) : Type 0 where
   pub memory : memory b ≡ m.now
   pub named : b.lines.ghost_name ≡ m.ghost_name
 
--- What every call keeps, where a store tells the names of the memory that it was lent. Each book stays where it lies.
+-- What every call keeps, where a store tells the names of the memory that it was lent: the policy, where store and books lie, and what
+-- lies past the lines that each book holds.
 pub record Keeps {S P : Type 0} (lent : S → List ℕ) (r s : Register S P) : Type 0 where
   pub policy : s.policy ≡ r.policy
   pub store : lent s.store ≡ lent r.store
@@ -60,7 +61,7 @@ pub record Keeps {S P : Type 0} (lent : S → List ℕ) (r s : Register S P) : T
   pub writes : Stays r.writes s.writes
   pub notes : Stays r.notes s.notes
 
--- What a call keeps that changes transaction lines only.
+-- What a call keeps beside that, whose transaction lines alone may change: the store and the four other books, memory included.
 pub record KeepsButTransactions {S P : Type 0} (r s : Register S P) : Type 0 where
   pub store : s.store ≡ r.store
   pub rows : s.rows ≡ r.rows
@@ -68,7 +69,7 @@ pub record KeepsButTransactions {S P : Type 0} (r s : Register S P) : Type 0 whe
   pub writes : s.writes ≡ r.writes
   pub notes : s.notes ≡ r.notes
 
--- What a call keeps that changes rows only.
+-- What a call keeps beside that, whose rows alone may change.
 pub record KeepsButRows {S P : Type 0} (r s : Register S P) : Type 0 where
   pub store : s.store ≡ r.store
   pub transactions : s.transactions ≡ r.transactions
@@ -76,7 +77,7 @@ pub record KeepsButRows {S P : Type 0} (r s : Register S P) : Type 0 where
   pub writes : s.writes ≡ r.writes
   pub notes : s.notes ≡ r.notes
 
--- A range is what the policy takes of what was found for any transaction whose notes the marks are of.
+-- The range is what the policy takes of what was found, for whichever transaction and ground the marks come of.
 abbrev pub Takes : {S P : Type 0} → (S → Cells) → (P → Chooses) → Register S P → Findings → ℤ × ℤ → Type 0
 Takes cells chosen r f range =
     (t g : ℕ) → Marked (held r.rows.book) (held r.notes) t g f

@@ -1,4 +1,4 @@
--- The worked cases of docs/cases.md, as calls with the replies that were worked out by hand.
+-- The worked cases of docs/cases.md, as calls with the responses that were worked out by hand.
 use Rattle.std.specs.Prelude.{List, [], ◌∷◌, pos, negsuc}
 use Rattle.policy.specs.Ranges.{whole_range, near_range}
 use Rattle.register.specs.declared.call.Call.TheVariants.{Begin, Read, Prewrite, Validate, Decide, Settle}

@@ -1,5 +1,4 @@
-// What a first read or prewrite of a key writes: its line, a row where the transaction has none yet, and notes for the locks it
-// meets.
+// Lines that are added to books known to have room for them.
 
 ghost use Rattle.std.specs.Prelude.{◌≡◌, true, [], ◌∷◌};
 ghost use Rattle.book.specs.Books.{held, room};

@@ -31,7 +31,7 @@ impl Range {
         self
     }
 
-    // Those of them that lie below a number. It mirrors `above` in each step, so that one function of both would only take the steps.
+    // Those of them that lie below a number. One function for both sides would take each step as a parameter.
     pub fn below(mut self, number: i32) -> Range
         requires { pos 0 ≤ℤ number }
         ensures { result ≡ below self number }
@@ -41,8 +41,8 @@ impl Range {
     }
 }
 
-// A range that was taken: its bounds are within the limits of a row, so that it can be written into one, and that no bound of a row
-// that makes way for it overflows. A type apart from `Range`, whose bounds may lie anywhere.
+// A range that was taken. Its bounds are within the limits of a row: it can be written into one, and no bound of a row that makes way
+// for it overflows. A type apart from `Range`, whose bounds may lie anywhere.
 #[derive(Clone, Copy)]
 pub struct Taken {
     pub lower: i32,

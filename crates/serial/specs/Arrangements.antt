@@ -5,7 +5,7 @@
 use Rattle.std.specs.Prelude.{ℕ, Bool, true, false, cond, ◌&&◌, ◌||◌, List, [], ◌∷◌, map, ℤ, pos, negsuc, Some, None, Option, ◌==◌, nat_lt}
 use Rattle.std.specs.Option.{option_map}
 use Rattle.store.specs.Stores.{Cells}
-use Rattle.serial.specs.Ledger.{History, Commit, reads_of, last_put, commits}
+use Rattle.serial.specs.Ledger.{History, Commit, reads_of, last_prewritten, commits}
 
 -- The values that cells hold.
 abbrev pub Values : Type 0
@@ -16,13 +16,13 @@ abbrev pub values : Cells → Values
 values cells k = option_map (λ c. c.value) (cells k)
 
 -- What was put takes the place of what was there.
-abbrev pub put_over : Option ℤ → Option ℤ → Option ℤ
-put_over None old = old
-put_over (Some v) old = Some v
+abbrev pub written_over : Option ℤ → Option ℤ → Option ℤ
+written_over None old = old
+written_over (Some v) old = Some v
 
 -- The values after one transaction wrote the last accepted value of each cell that it prewrote.
 abbrev pub after_one : History → ℕ → Values → Values
-after_one h t vs k = put_over (last_put h t k) (vs k)
+after_one h t vs k = written_over (last_prewritten h t k) (vs k)
 
 -- The values after all transactions of an arrangement.
 abbrev pub after_all : History → List ℕ → Values → Values

@@ -1,6 +1,6 @@
--- The ledger: what the calls of a day and their replies alone say. A history has its newest entry first.
+-- The ledger: what the calls of a day and their responses alone say. A history has its newest entry first.
 --   reads_of h t          the keys and values of t's accepted reads
---   last_put h t k        the value of t's last accepted prewrite of k, or nothing
+--   last_prewritten h t k        the value of t's last accepted prewrite of k, or nothing
 --   commits h             who committed, and at which stamp
 --   pending h t g         t touched the ground g, and has neither failed its validation there nor been settled there since
 --   owed h g              a committed transaction is pending at the ground g
@@ -70,19 +70,19 @@ abbrev pub reads_of : History → ℕ → List (ℕ × ℤ)
 reads_of h t = flat_map (λ e. reads_in t e.0 e.1) h
 
 -- The value that one entry says t put at k; else what was said before.
-abbrev pub put_in : ℕ → ℕ → Call → Response → Option ℤ → Option ℤ
-put_in t k (Begin u) r before = before
-put_in t k (Read u j) r before = before
-put_in t k (Prewrite u j v) r before = cond (u == t && (j == k && accepted r)) (Some v) before
-put_in t k (Validate u g) r before = before
-put_in t k (Decide u) r before = before
-put_in t k (Withdraw u) r before = before
-put_in t k (Settle u g) r before = before
+abbrev pub prewritten_in : ℕ → ℕ → Call → Response → Option ℤ → Option ℤ
+prewritten_in t k (Begin u) r before = before
+prewritten_in t k (Read u j) r before = before
+prewritten_in t k (Prewrite u j v) r before = cond (u == t && (j == k && accepted r)) (Some v) before
+prewritten_in t k (Validate u g) r before = before
+prewritten_in t k (Decide u) r before = before
+prewritten_in t k (Withdraw u) r before = before
+prewritten_in t k (Settle u g) r before = before
 
 -- The value of t's last accepted prewrite of k.
-abbrev pub last_put : History → ℕ → ℕ → Option ℤ
-last_put [] t k = None
-last_put (e ∷ h) t k = put_in t k e.0 e.1 (last_put h t k)
+abbrev pub last_prewritten : History → ℕ → ℕ → Option ℤ
+last_prewritten [] t k = None
+last_prewritten (e ∷ h) t k = prewritten_in t k e.0 e.1 (last_prewritten h t k)
 
 -- Who one entry says committed.
 abbrev pub commit_in : Call → Response → List Commit

@@ -3,10 +3,7 @@
 --                   the values that the day's cells were worked out to hold
 use Rattle.std.specs.Prelude.{◌≡◌, ℕ, Bool, true, not, ◌&&◌, ◌||◌, List, [], ◌∷◌, reverse}
 use Rattle.register.specs.Cases.{Case, Figures, cells_at}
-use Rattle.register.specs.AcrossGrounds.{across_grounds}
-use Rattle.register.specs.AtOneCell.{at_one_cell}
-use Rattle.register.specs.RefusedCalls.{refused_calls}
-use Rattle.register.specs.Worked.{worked}
+use Rattle.register.specs.AllCases.{all_cases}
 use Rattle.serial.specs.Ledger.{History, nothing_owed}
 use Rattle.serial.specs.Arrangements.{Values, values, after_all, finds, told, serial_order}
 
@@ -35,9 +32,6 @@ abbrev pub all_told : List Case → Bool
 all_told [] = true
 all_told (c ∷ cs) = tells c && all_told cs
 
--- The worked cases and the longer days.
-pub record DaysAreSerial : Type 0 where
-  pub worked : all_told worked ≡ true
-  pub refused_calls : all_told refused_calls ≡ true
-  pub at_one_cell : all_told at_one_cell ≡ true
-  pub across_grounds : all_told across_grounds ≡ true
+-- It tells every worked case and every longer day.
+abbrev pub DaysAreSerial : Type 0
+DaysAreSerial = all_told all_cases ≡ true

@@ -44,7 +44,7 @@ fn holds(rows: &Book<Row>, line: AccessKey, key: u16) -> bool
     line.key == key && lock_stands(rows, line)
 }
 
-// Adds the notes that are wanted for the holders of the soft locks on a key, which some read or write lines stand as.
+// Adds the notes that are wanted for the holders of soft locks on a key, among some read or write lines.
 pub(crate) fn gather<L: Line<Key = AccessKey>, F: Fn(u32) -> Option<Note>>(
     notes: &mut NewNotes,
     key: u16,

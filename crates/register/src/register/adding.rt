@@ -1,7 +1,6 @@
 ghost use Rattle.std.specs.Prelude.{◌≡◌};
-ghost use Rattle.register.specs.Noting.{new_rows, notes_of_read, notes_of_prewrite};
+ghost use Rattle.register.specs.Noting.{notes_of_read, notes_of_prewrite};
 ghost use Rattle.register.specs.Registers.{model};
-ghost use Rattle.register.specs.Room.{one_if};
 
 use crate::noting::additions::Additions;
 use crate::noting::notes::{gather, no_notes, note};
@@ -13,20 +12,9 @@ use policy::policy::Policy;
 use store::store::Store;
 
 impl<'a, S: Store, P: Policy> Register<'a, S, P> {
-    // The row that an access needs, where its transaction has none yet at the ground of the key.
-    fn row_needed(&self, access: AccessKey) -> Option<Row>
-        ensures { one_if result ≡ new_rows (model S.cells self.now) access.transaction access.key }
-    {
-        let key = access.row_key();
-        match self.rows.find(key) {
-            Some(_) => None,
-            None => Some(Row::new(key)),
-        }
-    }
-
     // What a read adds beside its line. The reader comes before each writer whose lock it meets.
-    pub(super) fn additions_of_read(&self, access: AccessKey) -> Additions
-        ensures row { one_if result.row ≡ new_rows (model S.cells self.now) access.transaction access.key }
+    pub(super) fn additions_of_read(&self, access: AccessKey, row: Option<Row>) -> Additions
+        ensures row { result.row ≡ row }
         ensures notes { result.notes ≡ notes_of_read (model S.cells self.now) access.transaction access.key }
     {
         let AccessKey { transaction, key } = access;
@@ -38,16 +26,13 @@ impl<'a, S: Store, P: Policy> Register<'a, S, P> {
             self.writes.lines(),
             |writer| { Some(note(key, transaction, Order::Before, writer)) },
         );
-        Additions {
-            row: self.row_needed(access),
-            notes,
-        }
+        Additions { row, notes }
     }
 
     // What a prewrite adds beside its line. Each other reader whose lock it meets comes before it; then it is apart from each
     // other writer.
-    pub(super) fn additions_of_prewrite(&self, access: AccessKey) -> Additions
-        ensures row { one_if result.row ≡ new_rows (model S.cells self.now) access.transaction access.key }
+    pub(super) fn additions_of_prewrite(&self, access: AccessKey, row: Option<Row>) -> Additions
+        ensures row { result.row ≡ row }
         ensures notes { result.notes ≡ notes_of_prewrite (model S.cells self.now) access.transaction access.key }
     {
         let AccessKey { transaction, key } = access;
@@ -70,9 +55,6 @@ impl<'a, S: Store, P: Policy> Register<'a, S, P> {
                 (writer != transaction).then_some(note(key, transaction, Order::Apart, writer))
             },
         );
-        Additions {
-            row: self.row_needed(access),
-            notes,
-        }
+        Additions { row, notes }
     }
 }

@@ -1,11 +1,23 @@
-ghost use Rattle.std.specs.Prelude.{◌≡◌, cond, Ok, Err};
+ghost use Rattle.std.specs.Prelude.{◌≡◌, cond, IfOk, Ok, Err};
 ghost use Rattle.std.specs.Option.{ok_or};
 ghost use Rattle.wire.specs.declared.refusal.Refusal.TheVariants.{NeverBegun};
 ghost use Rattle.wire.specs.Keys.{ground_of};
 ghost use Rattle.book.specs.Books.{held};
 ghost use Rattle.lines.specs.Locks.{row_of};
 ghost use Rattle.lines.specs.Rows.{Bounded};
-ghost use Rattle.register.specs.Checks.{any, is_write_of, open_now, none_running, cell_here, running, unless_past, unwritten};
+ghost use Rattle.register.specs.Checks.{
+  any,
+  is_write_of,
+  open_now,
+  none_running,
+  cell_here,
+  running,
+  lets_pass,
+  unless_stopped,
+  unwritten,
+};
+ghost use Rattle.register.specs.Noting.{new_rows};
+ghost use Rattle.register.specs.Room.{one_if};
 ghost use Rattle.register.specs.Model.{transaction_of};
 ghost use Rattle.register.specs.Registers.{model};
 
@@ -18,7 +30,7 @@ use store::cell::Cell;
 use store::store::Store;
 use wire::refusal::Refusal;
 
-// Refuses a call, where what would stand against it holds.
+// Refuses where something stands against the call.
 fn refused_if(stands: bool, refusal: Refusal) -> Result<(), Refusal>
     ensures { result ≡ cond stands (Err refusal) (Ok tt) }
 {
@@ -75,14 +87,18 @@ impl<'a, S: Store, P: Policy> Register<'a, S, P> {
         self.store.fetch(key).ok_or(Refusal::NoSuchKey)
     }
 
-    // That the transaction has no row yet at the ground of a key, or one that is Running.
-    pub(super) fn unless_past(&self, access: AccessKey) -> Result<(), Refusal>
-        ensures { result ≡ unless_past (row_of (held self.now.rows.book) access.transaction (ground_of access.key)) }
+    // The row that an access needs, where its transaction has none yet at the ground of the key. One that is there has to be Running.
+    pub(super) fn row_needed(&self, access: AccessKey) -> Result<Option<Row>, Refusal>
+        ensures check { lets_pass result
+            ≡ unless_stopped (row_of (held self.now.rows.book) access.transaction (ground_of access.key)) }
+        ensures row { IfOk result (λ row. one_if row ≡ new_rows (model S.cells self.now) access.transaction access.key) }
     {
-        match self.rows.find(access.row_key()) {
-            Some(row) => running(&row),
-            None => Ok(()),
-        }
+        let key = access.row_key();
+        let Some(row) = self.rows.find(key) else {
+            return Ok(Some(Row::new(key)));
+        };
+        running(&row)?;
+        Ok(None)
     }
 
     // That the transaction has prewritten nothing, at any ground.

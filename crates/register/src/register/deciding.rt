@@ -1,7 +1,7 @@
 ghost use Rattle.std.specs.Prelude.{◌≡◌, filter};
 ghost use Rattle.book.specs.Books.{held};
-ghost use Rattle.register.specs.Checks.{any, is_aborted};
-ghost use Rattle.register.specs.Deciding.{is_own, is_running_own, any_stamp, allowed_with, allowed_by};
+ghost use Rattle.register.specs.Checks.{any, is_aborted, is_own, is_running_own};
+ghost use Rattle.register.specs.Allowed.{any_stamp, allowed_with, allowed_by};
 ghost use Rattle.register.specs.Decisions.{decision_in, decision_of};
 
 use crate::range::Range;

@@ -21,7 +21,7 @@ impl<'a, S: Store, P: Policy> Register<'a, S, P> {
         self.open_now(transaction)?;
         self.cell_here(key)?;
         let access = AccessKey { transaction, key };
-        self.unless_past(access)?;
+        let row = self.row_needed(access)?;
         let line = WriteLine {
             transaction,
             key,
@@ -31,7 +31,7 @@ impl<'a, S: Store, P: Policy> Register<'a, S, P> {
             replace(&mut self.writes, access, line);
             return Ok(());
         }
-        let additions = self.additions_of_prewrite(access);
+        let additions = self.additions_of_prewrite(access, row);
         // Borrowed first: the checker does not follow a borrow of the book alone through two types with facts.
         let rows = &mut self.rows;
         additions.add_with(line, &mut rows.book, &mut self.writes, &mut self.notes)?;

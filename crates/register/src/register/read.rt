@@ -21,7 +21,7 @@ impl<'a, S: Store, P: Policy> Register<'a, S, P> {
         self.open_now(transaction)?;
         let cell = self.cell_here(key)?;
         let access = AccessKey { transaction, key };
-        self.unless_past(access)?;
+        let row = self.row_needed(access)?;
         self.unwritten(transaction)?;
         if let Some(line) = self.reads.find(access) {
             return Ok((line.value, line.seen));
@@ -32,7 +32,7 @@ impl<'a, S: Store, P: Policy> Register<'a, S, P> {
             value: cell.value,
             seen: cell.write,
         };
-        let additions = self.additions_of_read(access);
+        let additions = self.additions_of_read(access, row);
         // Borrowed first: the checker does not follow a borrow of the book alone through two types with facts.
         let rows = &mut self.rows;
         additions.add_with(line, &mut rows.book, &mut self.reads, &mut self.notes)?;

@@ -4,7 +4,8 @@ ghost use Rattle.store.specs.Stores.{Refuses};
 ghost use Rattle.register.specs.Calls.{validate};
 ghost use Rattle.register.specs.Findings.{Marked};
 ghost use Rattle.register.specs.Registers.{model, Keeps, KeepsButRows, Takes};
-ghost use Rattle.register.specs.Validation.{raised_above, lowered_below, floors, ceilings};
+ghost use Rattle.register.specs.Among.{raised_above, lowered_below};
+ghost use Rattle.register.specs.Validation.{floors, ceilings};
 
 use crate::range::{Range, Taken};
 use crate::register::Register;
@@ -37,12 +38,12 @@ impl<'a, S: Store, P: Policy> Register<'a, S, P> {
     fn choose(&self, findings: &Findings) -> (i32, i32)
         ensures { Takes S.cells P.chosen self.now findings.now result }
     {
-        let near = Neighbours::of_marked(findings, &self.rows);
+        let neighbours = Neighbours::of_marked(findings, &self.rows);
         self.policy.choose(
             findings.range.lower,
             findings.range.upper,
-            near.befores.as_slice(),
-            near.afters.as_slice(),
+            neighbours.befores.as_slice(),
+            neighbours.afters.as_slice(),
         )
     }
 

@@ -1,6 +1,6 @@
 ghost use Rattle.std.specs.Prelude.{◌≡◌};
 ghost use Rattle.book.specs.Books.{held};
-ghost use Rattle.register.specs.Validation.{other_party};
+ghost use Rattle.register.specs.Among.{other_party};
 ghost use Rattle.register.specs.Findings.{Located};
 
 use crate::row_book::RowBook;

@@ -1,8 +1,7 @@
 ghost use Rattle.std.specs.Prelude.{◌≡◌, ◌<◌};
 ghost use Rattle.book.specs.Books.{held};
 ghost use Rattle.register.specs.Findings.{unfound, with_effect, noted, FitsEffect, Marked};
-ghost use Rattle.register.specs.Validation.{raised_above, lowered_below};
-ghost use Rattle.register.specs.Among.{note_floors, note_ceilings};
+ghost use Rattle.register.specs.Among.{note_floors, note_ceilings, raised_above, lowered_below};
 
 use crate::range::Range;
 use crate::row_book::RowBook;

@@ -17,26 +17,8 @@ use Rattle.lines.specs.declared.note.Note.{Note}
 use Rattle.lines.specs.declared.row.Row.{Row}
 use Rattle.register.specs.Checks.{any}
 use Rattle.register.specs.Model.{Model}
-use Rattle.register.specs.Validation.{
-  raise,
-  raised_above,
-  of_here,
-  read_floor,
-  stamps_of,
-  write_floor,
-  other_party,
-  effect_with,
-  note_effect,
-  effect_floor,
-  effect_ceiling,
-  is_before,
-  is_after,
-  floors,
-  ceilings,
-  joins,
-  befores,
-  afters,
-}
+use Rattle.register.specs.Among.{raise, raised_above, other_party, effect_with, effect_floor, effect_ceiling, is_before, is_after}
+use Rattle.register.specs.Validation.{of_here, read_floor, stamps_of, write_floor, note_effect, floors, ceilings, joins, befores, afters}
 use Rattle.serial.specs.Alone.{Fresh, fresh_cell}
 
 -- A list of which each line gives nothing.

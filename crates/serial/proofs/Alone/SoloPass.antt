@@ -17,7 +17,8 @@ use Rattle.lines.specs.declared.row.Row.{Row}
 use Rattle.lines.specs.declared.row.State.TheVariants.{Running}
 use Rattle.register.proofs.Raising.{raised_least}
 use Rattle.register.specs.Model.{Model, Chooses}
-use Rattle.register.specs.Validation.{floors, lowered_below, afters, passed, is_before, is_after, pushed, raise, lower}
+use Rattle.register.specs.Among.{lowered_below, is_before, is_after, raise, lower}
+use Rattle.register.specs.Validation.{floors, afters, passed, pushed}
 use Rattle.serial.specs.Days.{Meaning}
 use Rattle.serial.proofs.Lines.Found.{find_all, all_replaced}
 use Rattle.serial.proofs.Outcomes.AtGrounds.{low, high, chosen}

@@ -10,7 +10,7 @@ use Rattle.lines.specs.declared.transaction.Decision.{Decision}
 use Rattle.lines.specs.declared.transaction.Decision.TheVariants as decision
 use Rattle.lines.specs.declared.transaction.Transaction.{Transaction}
 use Rattle.register.specs.Model.{Model, read_of, write_of, transaction_of}
-use Rattle.serial.specs.Ledger.{History, last_put}
+use Rattle.serial.specs.Ledger.{History, last_prewritten}
 use Rattle.serial.proofs.Ledger.Fates.{Fate, Away, Running, Past, Gone, fate, seen, stamp_of}
 
 -- The fate that a row in a state shows.
@@ -40,5 +40,5 @@ line_stamp (Some x) = decided_stamp x.decision
 pub record Linked (h : History) (m : Model) : Type 0 where
   pub rows : (t g : ℕ) → fate h t g ≡ row_fate (row_of m.rows t g)
   pub reads : (t k : ℕ) → seen h t k ≡ option_map (λ x. (x.value, x.seen.number)) (read_of m t k)
-  pub writes : (t k : ℕ) → last_put h t k ≡ option_map (λ x. x.value) (write_of m t k)
+  pub writes : (t k : ℕ) → last_prewritten h t k ≡ option_map (λ x. x.value) (write_of m t k)
   pub stamps : (t : ℕ) → stamp_of h t ≡ line_stamp (transaction_of m t)

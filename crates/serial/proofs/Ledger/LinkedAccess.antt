@@ -16,7 +16,7 @@ use Rattle.register.specs.Model.{Model, read_of, write_of}
 use Rattle.register.specs.declared.call.Call.{Call}
 use Rattle.register.specs.declared.call.Call.TheVariants as call
 use Rattle.register.specs.declared.call.Reply.TheVariants as reply
-use Rattle.serial.specs.Ledger.{History, last_put}
+use Rattle.serial.specs.Ledger.{History, last_prewritten}
 use Rattle.serial.proofs.Ledger.Fates.{fate, seen}
 use Rattle.serial.proofs.Ledger.Linked.{Linked, row_fate}
 use Rattle.serial.proofs.Ledger.LinkedLines.{first_seen, again_seen, first_put, again_put}
@@ -83,12 +83,12 @@ module _ (m : Model) (h : History) (linked : Linked h m) where
       record {
         rows = again_fates (fate h) m.rows t (ground_of k) linked.rows there.0 there.1;
         reads = linked.reads;
-        writes = again_put (last_put h) m.writes t k v linked.writes w at;
+        writes = again_put (last_prewritten h) m.writes t k v linked.writes w at;
         stamps = linked.stamps;
       })
       (λ c _ _ _ none. record {
         rows = added_fates (fate h) m.rows t (ground_of k) linked.rows;
         reads = linked.reads;
-        writes = first_put (last_put h) m.writes t k v linked.writes none;
+        writes = first_put (last_prewritten h) m.writes t k v linked.writes none;
         stamps = linked.stamps;
       })

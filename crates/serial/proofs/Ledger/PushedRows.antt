@@ -14,7 +14,8 @@ use Rattle.lines.specs.declared.row.State.{State}
 use Rattle.lines.specs.declared.row.State.TheVariants as state
 use Rattle.register.specs.Checks.{any}
 use Rattle.register.specs.Model.{Model}
-use Rattle.register.specs.Validation.{is_after, is_before, joins, effect_with, note_effect, other_party, pushed}
+use Rattle.register.specs.Among.{is_after, is_before, effect_with, other_party}
+use Rattle.register.specs.Validation.{joins, note_effect, pushed}
 use Rattle.serial.proofs.Ledger.Fates.{Fate}
 use Rattle.serial.proofs.Ledger.Linked.{fate_by, row_fate}
 use Rattle.serial.proofs.Lines.RowKeys.{found_key, pushed_rows}

@@ -7,7 +7,7 @@ use Rattle.lines.specs.Rows.{past}
 use Rattle.lines.specs.declared.row.Row.{Row}
 use Rattle.lines.specs.declared.row.State.{State}
 use Rattle.lines.specs.declared.row.State.TheVariants as state
-use Rattle.register.specs.Checks.{running, unless_past}
+use Rattle.register.specs.Checks.{running, unless_stopped}
 use Rattle.serial.proofs.Ledger.Fates.{Away, Running, Past, Live}
 use Rattle.serial.proofs.Ledger.Linked.{fate_by, row_fate}
 use Rattle.serial.proofs.Outcomes.Checks.{running_is}
@@ -40,7 +40,7 @@ pub running_shown : (r : Row) → running r ≡ Ok tt → row_fate (Some r) ≡ 
 running_shown r e = ap (λ s. fate_by s r.lower r.upper) (running_is r e)
 
 -- Where there is no row, or one that is Running, the transaction is away or Running.
-pub free_shown : (o : Option Row) → unless_past o ≡ Ok tt → (row_fate o ≡ Away) ⊎ (row_fate o ≡ Running)
+pub free_shown : (o : Option Row) → unless_stopped o ≡ Ok tt → (row_fate o ≡ Away) ⊎ (row_fate o ≡ Running)
 free_shown None e = inl refl
 free_shown (Some r) e = inr (running_shown r e)
 

@@ -12,7 +12,7 @@ use Rattle.register.specs.Model.{Model}
 use Rattle.register.specs.declared.call.Call.{Call}
 use Rattle.register.specs.declared.call.Call.TheVariants as call
 use Rattle.register.specs.Calls.{Response}
-use Rattle.serial.specs.Ledger.{History, put_in, last_put}
+use Rattle.serial.specs.Ledger.{History, prewritten_in, last_prewritten}
 use Rattle.serial.proofs.Ledger.Fates.{Fate, seen_in, stamp_from, fate_in, fate, seen, stamp_of}
 use Rattle.serial.proofs.Steps.Holding.{view}
 use Rattle.serial.proofs.Changes.Invariant.{Sound}
@@ -32,7 +32,7 @@ refused_test b c x y = rw (and_right b (c && false) (and_right c false refl)) re
 pub record Silent (h : History) (e : Call × Response) : Type 0 where
   pub fates : (t g : ℕ) → fate (e ∷ h) t g ≡ fate h t g
   pub sights : (t k : ℕ) → seen (e ∷ h) t k ≡ seen h t k
-  pub puts : (t k : ℕ) → last_put (e ∷ h) t k ≡ last_put h t k
+  pub puts : (t k : ℕ) → last_prewritten (e ∷ h) t k ≡ last_prewritten h t k
   pub stamps : (t : ℕ) → stamp_of (e ∷ h) t ≡ stamp_of h t
 
 -- The ledger and the books still say the same.
@@ -51,7 +51,7 @@ silent_sound first m h e s =
     subst (Sound first) (sym
     (ap₂ (λ (f : ℕ → ℕ → Fate) (p : ℕ → ℕ → Option ℤ). record { fates = f; seen = seen (e ∷ h); put = p; cells = m.cells; notes = m.notes })
     (fun_ext (λ t. fun_ext (s.fates t))) (fun_ext (λ t. fun_ext (s.puts t)))
-    ∙ ap (λ q. record { fates = fate h; seen = q; put = last_put h; cells = m.cells; notes = m.notes })
+    ∙ ap (λ q. record { fates = fate h; seen = q; put = last_prewritten h; cells = m.cells; notes = m.notes })
     (fun_ext (λ t. fun_ext (s.sights t)))))
 
 -- A refused call says nothing new.
@@ -77,7 +77,7 @@ refused_silent h c e =
     sights t k (call.Withdraw u) = refl
     sights t k (call.Settle u g) = refl
 
-    puts : (t k : ℕ) (d : Call) → put_in t k d (Err e) (last_put h t k) ≡ last_put h t k
+    puts : (t k : ℕ) (d : Call) → prewritten_in t k d (Err e) (last_prewritten h t k) ≡ last_prewritten h t k
     puts t k (call.Begin u) = refl
     puts t k (call.Read u j) = refl
     puts t k (call.Prewrite u j v) = refused_test (eqb u t) (eqb j k) _ _

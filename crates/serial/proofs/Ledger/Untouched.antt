@@ -9,7 +9,7 @@ use Rattle.register.specs.declared.call.Call.{Call}
 use Rattle.register.specs.declared.call.Call.TheVariants as call
 use Rattle.register.specs.Calls.{Response}
 use Rattle.register.specs.declared.call.Reply.TheVariants as reply
-use Rattle.serial.specs.Ledger.{History, accepted, put_in, last_put}
+use Rattle.serial.specs.Ledger.{History, accepted, prewritten_in, last_prewritten}
 use Rattle.serial.proofs.Ledger.Fates.{Fate, Away, Running, Past, Gone, begun, judged, settled_at, seen_or, seen_in, fate_in, fate, seen, stamp_of}
 use Rattle.serial.proofs.Lines.ByKey.{by_key}
 
@@ -63,7 +63,7 @@ NothingSaid o p = (o ≡ None) × (p ≡ None)
 
 module _ (t k : ℕ) (r : Response) (s : Option ℕ) (f : Fate) (o : Option (ℤ × ℕ)) (p : Option ℤ) (before : f ≡ Away → NothingSaid o p) where
   -- What one entry says, where the transaction is still away after it.
-  entry : (c : Call) → fate_in t (ground_of k) c r s f ≡ Away → NothingSaid (seen_in t k c r o) (put_in t k c r p)
+  entry : (c : Call) → fate_in t (ground_of k) c r s f ≡ Away → NothingSaid (seen_in t k c r o) (prewritten_in t k c r p)
   entry (call.Begin u) e = before e
   entry (call.Read u j) e =
       let a = away_still (eqb u t && (eqb (ground_of j) (ground_of k) && accepted r)) f e in
@@ -95,7 +95,7 @@ module _ (t k : ℕ) (r : Response) (s : Option ℕ) (f : Fate) (o : Option (ℤ
       go false q = q
 
 -- Nothing was seen and nothing was put at a key of a ground that was never touched.
-pub untouched : (h : History) (t k : ℕ) → fate h t (ground_of k) ≡ Away → (seen h t k ≡ None) × (last_put h t k ≡ None)
+pub untouched : (h : History) (t k : ℕ) → fate h t (ground_of k) ≡ Away → (seen h t k ≡ None) × (last_prewritten h t k ≡ None)
 untouched [] t k e = (refl, refl)
 untouched (x ∷ h) t k e =
-    entry t k x.1 (stamp_of h t) (fate h t (ground_of k)) (seen h t k) (last_put h t k) (untouched h t k) x.0 e
+    entry t k x.1 (stamp_of h t) (fate h t (ground_of k)) (seen h t k) (last_prewritten h t k) (untouched h t k) x.0 e

@@ -14,7 +14,8 @@ use Rattle.lines.specs.declared.row.State.TheVariants.{Running, Validated, Commi
 use Rattle.register.specs.Calls.{validate, validate_in, passed_with}
 use Rattle.register.specs.Checks.{after, open_line, open_now, row_here, running}
 use Rattle.register.specs.Model.{Model, Chooses, transaction_of, with_rows}
-use Rattle.register.specs.Validation.{floors, ceilings, befores, afters, pushed, row_moved, failed, passed, raised_above, lowered_below}
+use Rattle.register.specs.Among.{raised_above, lowered_below}
+use Rattle.register.specs.Validation.{floors, ceilings, befores, afters, pushed, row_moved, failed, passed}
 use Rattle.serial.specs.Agreement.{rows_at, Agree, SamePolicy, Local, LocalUnder}
 use Rattle.serial.proofs.Lines.Kept.{kept_map, kept_replaced, line_passes}
 use Rattle.serial.proofs.Outcomes.Checks.{here_some}

@@ -14,25 +14,8 @@ use Rattle.lines.specs.declared.note.Note.{Note}
 use Rattle.lines.specs.declared.row.Row.{Row}
 use Rattle.register.specs.Checks.{any}
 use Rattle.register.specs.Model.{Model}
-use Rattle.register.specs.Validation.{
-  of_here,
-  read_floor,
-  write_floor,
-  stamps_of,
-  other_party,
-  effect_with,
-  note_effect,
-  effect_floor,
-  effect_ceiling,
-  is_before,
-  is_after,
-  floors,
-  ceilings,
-  joins,
-  befores,
-  afters,
-  pushed,
-}
+use Rattle.register.specs.Among.{other_party, effect_with, effect_floor, effect_ceiling, is_before, is_after}
+use Rattle.register.specs.Validation.{of_here, read_floor, write_floor, stamps_of, note_effect, floors, ceilings, joins, befores, afters, pushed}
 use Rattle.serial.specs.Agreement.{rows_at, reads_at, writes_at, notes_at, Agree}
 use Rattle.serial.proofs.Lines.Kept.{joined_kept, any_kept, kept_kept, line_kept}
 

@@ -6,16 +6,16 @@ use Rattle.std.proofs.Common.{◌≡◌, ℕ, Bool, true, ◌⊎◌, List, [], �
 use Rattle.std.proofs.ByRecursion.{All-weaker}
 use Rattle.std.proofs.lemmas.Bool.{and_from, eq-eqb}
 use Rattle.std.specs.List.{AllByRecursion}
-use Rattle.serial.specs.Ledger.{History, Commit, reads_of, last_put}
-use Rattle.serial.specs.Arrangements.{Values, put_over, after_one, after_all, same_value, finds, all_found, told, earlier}
+use Rattle.serial.specs.Ledger.{History, Commit, reads_of, last_prewritten}
+use Rattle.serial.specs.Arrangements.{Values, written_over, after_one, after_all, same_value, finds, all_found, told, earlier}
 use Rattle.serial.proofs.Order.Arrangement.{Sorted, earlier_not}
 use Rattle.serial.proofs.Lines.Member.{In, in_all}
 
 -- The last writer of k among those of some commits that pass a test: nobody, and o is there; or u, which wrote o.
 pub data Last (h : History) (p : Commit → Bool) (k : ℕ) (o : Option ℤ) (cs : List Commit) (vs : Values) : Type 0 where
-  nobody : vs k ≡ o → ((d : Commit) → In d cs → p d ≡ true → (x : ℤ) → last_put h d.number k ≡ Some x → ⊥) → Last h p k o cs vs
-  one : (u : Commit) → In u cs → p u ≡ true → (v : ℤ) → o ≡ Some v → last_put h u.number k ≡ Some v
-      → ((d : Commit) → In d cs → p d ≡ true → (x : ℤ) → last_put h d.number k ≡ Some x → (d ≡ u) ⊎ (earlier d u ≡ true))
+  nobody : vs k ≡ o → ((d : Commit) → In d cs → p d ≡ true → (x : ℤ) → last_prewritten h d.number k ≡ Some x → ⊥) → Last h p k o cs vs
+  one : (u : Commit) → In u cs → p u ≡ true → (v : ℤ) → o ≡ Some v → last_prewritten h u.number k ≡ Some v
+      → ((d : Commit) → In d cs → p d ≡ true → (x : ℤ) → last_prewritten h d.number k ≡ Some x → (d ≡ u) ⊎ (earlier d u ≡ true))
       → Last h p k o cs vs
 
 module _ (h : History) (p : Commit → Bool) (k : ℕ) (o : Option ℤ) where
@@ -27,13 +27,13 @@ module _ (h : History) (p : Commit → Bool) (k : ℕ) (o : Option ℤ) where
   -- The first commit passes, and its turn is over.
   last_next : (a : Commit) (cs : List Commit) (vs : Values) → AllByRecursion (λ d. earlier a d ≡ true) cs → p a ≡ true
       → Last h p k o (a ∷ cs) vs → Last h p k o cs (after_one h a.number vs)
-  last_next a cs vs s q (nobody e f) = nobody (go (last_put h a.number k) refl) (λ d i. f d (inr i))
+  last_next a cs vs s q (nobody e f) = nobody (go (last_prewritten h a.number k) refl) (λ d i. f d (inr i))
     where
-      go : (w : Option ℤ) → last_put h a.number k ≡ w → put_over w (vs k) ≡ o
+      go : (w : Option ℤ) → last_prewritten h a.number k ≡ w → written_over w (vs k) ≡ o
       go None r = e
       go (Some x) r = absurd (f a (inl refl) q x r)
   last_next a cs vs s q (one u (inl b) r v e w f) =
-      nobody (ap (λ z. put_over z (vs k)) (subst (λ z. last_put h z.number k ≡ Some v) (sym b) w) ∙ sym e)
+      nobody (ap (λ z. written_over z (vs k)) (subst (λ z. last_prewritten h z.number k ≡ Some v) (sym b) w) ∙ sym e)
       (λ d i t x y. late d (in_all (λ z. earlier a z ≡ true) d cs s i) (f d (inr i) t x y))
     where
       late : (d : Commit) → earlier a d ≡ true → (d ≡ u) ⊎ (earlier d u ≡ true) → ⊥

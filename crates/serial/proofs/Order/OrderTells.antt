@@ -6,7 +6,7 @@ use Rattle.wire.proofs.Clash.{clash}
 use Rattle.std.proofs.ByRecursion.{All-weaker}
 use Rattle.std.proofs.lemmas.Bool.{cases_Bool}
 use Rattle.std.specs.List.{AllByRecursion}
-use Rattle.serial.specs.Ledger.{History, Commit, commits, reads_of, last_put}
+use Rattle.serial.specs.Ledger.{History, Commit, commits, reads_of, last_prewritten}
 use Rattle.serial.specs.Arrangements.{Values, after_all, told, earlier, in_order, serial_order}
 use Rattle.serial.proofs.Order.Arrangement.{Once, once_same, stamp_earlier, earlier_most, earlier_not, in_order_sorted, in_order_in, in_in_order}
 use Rattle.serial.proofs.Lines.Member.{In}
@@ -17,20 +17,20 @@ use Rattle.serial.proofs.Order.LastWriter.{Last, nobody, one, last_ends, last_te
 pub data Source (h : History) (vs : Values) (c : Commit) (k : ℕ) (v : ℤ) : Type 0 where
   first : vs k ≡ Some v
       → ((d : Commit) → In d (commits h) → eqb d.number c.number ≡ false
-      → (x : ℤ) → last_put h d.number k ≡ Some x → c.stamp < d.stamp)
+      → (x : ℤ) → last_prewritten h d.number k ≡ Some x → c.stamp < d.stamp)
       → Source h vs c k v
-  writer : (u : Commit) → In u (commits h) → eqb u.number c.number ≡ false → u.stamp < c.stamp → last_put h u.number k ≡ Some v
+  writer : (u : Commit) → In u (commits h) → eqb u.number c.number ≡ false → u.stamp < c.stamp → last_prewritten h u.number k ≡ Some v
       → ((d : Commit) → In d (commits h) → eqb d.number c.number ≡ false → eqb d.number u.number ≡ false
-      → (x : ℤ) → last_put h d.number k ≡ Some x → (d.stamp < u.stamp) ⊎ (c.stamp < d.stamp))
+      → (x : ℤ) → last_prewritten h d.number k ≡ Some x → (d.stamp < u.stamp) ⊎ (c.stamp < d.stamp))
       → Source h vs c k v
 
 -- The source of what is at k at the end: what was there at first, and nobody wrote there; or a commit u that wrote it, and every other
 -- writer is below u.
 pub data Final (h : History) (vs : Values) (k : ℕ) (o : Option ℤ) : Type 0 where
-  untouched : o ≡ vs k → ((d : Commit) → In d (commits h) → last_put h d.number k ≡ None) → Final h vs k o
-  written : (u : Commit) → In u (commits h) → (v : ℤ) → o ≡ Some v → last_put h u.number k ≡ Some v
+  untouched : o ≡ vs k → ((d : Commit) → In d (commits h) → last_prewritten h d.number k ≡ None) → Final h vs k o
+  written : (u : Commit) → In u (commits h) → (v : ℤ) → o ≡ Some v → last_prewritten h u.number k ≡ Some v
       → ((d : Commit) → In d (commits h) → eqb d.number u.number ≡ false
-      → (x : ℤ) → last_put h d.number k ≡ Some x → d.stamp < u.stamp)
+      → (x : ℤ) → last_prewritten h d.number k ≡ Some x → d.stamp < u.stamp)
       → Final h vs k o
 
 module _ (h : History) (vs : Values) (once : Once (commits h)) where

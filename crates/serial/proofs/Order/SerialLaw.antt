@@ -14,7 +14,7 @@ use Rattle.lines.specs.declared.row.State.{State}
 use Rattle.lines.specs.declared.row.State.TheVariants as state
 use Rattle.register.specs.Model.{Model}
 use Rattle.serial.specs.Days.{Day}
-use Rattle.serial.specs.Ledger.{History, Commit, commits, reads_of, last_put, pending, owed}
+use Rattle.serial.specs.Ledger.{History, Commit, commits, reads_of, last_prewritten, pending, owed}
 use Rattle.serial.specs.Arrangements.{values, serial_order}
 use Rattle.serial.specs.Serial.{Tells}
 use Rattle.serial.proofs.Ledger.Fates.{Past, fate}
@@ -44,7 +44,7 @@ none_there (Some x) n = absurd (n x refl)
 
 module _ (cells : Cells) (h : History) (m : Model) (H : Holds cells h m) where
   -- A commit that writer_past k, where nothing is owed.
-  module _ (d : Commit) (j : In d (commits h)) (k : ℕ) (y : ℤ) (put : last_put h d.number k ≡ Some y)
+  module _ (d : Commit) (j : In d (commits h)) (k : ℕ) (y : ℤ) (put : last_prewritten h d.number k ≡ Some y)
       (n : owed h (ground_of k) ≡ false) where
     -- Its range.
     abbrev range : Passed h d.number (ground_of k) d.stamp
@@ -72,7 +72,7 @@ module _ (cells : Cells) (h : History) (m : Model) (H : Holds cells h m) where
     where
       -- Nobody writer_past above a cell that is as it was.
       unwritten : (f c : Cell) → cells k ≡ Some f → m.cells k ≡ Some c → f.write.number ≡ c.write.number
-          → (d : Commit) → In d (commits h) → (y : ℤ) → last_put h d.number k ≡ Some y → ⊥
+          → (d : Commit) → In d (commits h) → (y : ℤ) → last_prewritten h d.number k ≡ Some y → ⊥
       unwritten f c e s w d j y put =
           let a = above_first cells h m H d j k y put f e in
           let b = under_cell d j k y put n c s in
@@ -85,7 +85,7 @@ module _ (cells : Cells) (h : History) (m : Model) (H : Holds cells h m) where
           → Final h (values cells) k (option_map (λ x. x.value) (m.cells k))
       from_origin c s (inl (g, b, a, w)) =
           untouched (ap (option_map (λ x. x.value)) s ∙ (ap Some (sym a) ∙ sym (ap (option_map (λ x. x.value)) b)))
-          (λ d j. none_there (last_put h d.number k) (unwritten g c b s w d j))
+          (λ d j. none_there (last_prewritten h d.number k) (unwritten g c b s w d j))
       from_origin c s (inr (u, b, p)) =
           written (record { stamp = c.write.number; number = u })
           (settled_commit cells h m H u (ground_of k) c.write.number b) c.value
@@ -94,7 +94,7 @@ module _ (cells : Cells) (h : History) (m : Model) (H : Holds cells h m) where
           under_settled cells h m H d j k y put u c.write.number c.value o b p (under_cell d j k y put n c s))
 
       -- Nobody writer_past where there is no cell.
-      never : (d : Commit) → cells k ≡ None → (y : ℤ) → last_put h d.number k ≡ Some y → ⊥
+      never : (d : Commit) → cells k ≡ None → (y : ℤ) → last_prewritten h d.number k ≡ Some y → ⊥
       never d e y put =
           let f = H.sound.has d.number k y put in
           let s = f.1 in
@@ -103,7 +103,7 @@ module _ (cells : Cells) (h : History) (m : Model) (H : Holds cells h m) where
       go : (a : Option Cell) → cells k ≡ a → (b : Option Cell) → m.cells k ≡ b → kept_cell cells (view h m) k a b
           → Final h (values cells) k (option_map (λ x. x.value) (m.cells k))
       go None e None s q =
-          untouched (ap (option_map (λ x. x.value)) (s ∙ sym e)) (λ d j. none_there (last_put h d.number k) (never d e))
+          untouched (ap (option_map (λ x. x.value)) (s ∙ sym e)) (λ d j. none_there (last_prewritten h d.number k) (never d e))
       go None e (Some c) s q = absurd q
       go (Some f) e None s q = absurd q
       go (Some f) e (Some c) s q = from_origin c s q.1

@@ -8,7 +8,7 @@ use Rattle.store.specs.Stores.{Cells}
 use Rattle.store.specs.declared.cell.Cell.{Cell}
 use Rattle.wire.specs.Keys.{ground_of}
 use Rattle.register.specs.Model.{Model}
-use Rattle.serial.specs.Ledger.{History, Commit, commits, last_put}
+use Rattle.serial.specs.Ledger.{History, Commit, commits, last_prewritten}
 use Rattle.serial.specs.Arrangements.{values}
 use Rattle.serial.proofs.Ledger.Fates.{Fate, Past, fate, seen}
 use Rattle.serial.proofs.Steps.Holding.{Holds, view}
@@ -32,7 +32,7 @@ module _ (cells : Cells) (h : History) (m : Model) (H : Holds cells h m) where
     above_what_it_saw = (subst (Reader w (m.cells k)) reader_past.at (H.sound.reader c.number k (v, w) saw)).0
 
     -- Another writer was seen, or comes after.
-    seen_or_after : (d : Commit) (j : In d (commits h)) (y : ℤ) (put : last_put h d.number k ≡ Some y)
+    seen_or_after : (d : Commit) (j : In d (commits h)) (y : ℤ) (put : last_prewritten h d.number k ≡ Some y)
         → eqb d.number c.number ≡ false → ((writer_past cells h m H d j k y put).upper ≤ℤ pos w) ⊎ (c.stamp < d.stamp)
     seen_or_after d j y put n =
         go (writer_past cells h m H d j k y put)
@@ -50,7 +50,7 @@ module _ (cells : Cells) (h : History) (m : Model) (H : Holds cells h m) where
 
     -- What was there at first: no other writer was seen.
     after_first : (f : Cell) → cells k ≡ Some f → f.write.number ≡ w → (d : Commit) → In d (commits h)
-        → eqb d.number c.number ≡ false → (y : ℤ) → last_put h d.number k ≡ Some y → c.stamp < d.stamp
+        → eqb d.number c.number ≡ false → (y : ℤ) → last_prewritten h d.number k ≡ Some y → c.stamp < d.stamp
     after_first f e s d j n y put = go (seen_or_after d j y put n)
       where
         go : ((writer_past cells h m H d j k y put).upper ≤ℤ pos w) ⊎ (c.stamp < d.stamp) → c.stamp < d.stamp

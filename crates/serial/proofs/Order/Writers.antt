@@ -11,7 +11,7 @@ use Rattle.store.specs.Stores.{Cells}
 use Rattle.store.specs.declared.cell.Cell.{Cell}
 use Rattle.wire.specs.Keys.{ground_of}
 use Rattle.register.specs.Model.{Model}
-use Rattle.serial.specs.Ledger.{History, Commit, commits, last_put}
+use Rattle.serial.specs.Ledger.{History, Commit, commits, last_prewritten}
 use Rattle.serial.proofs.Ledger.Fates.{Fate, Away, Running, Past, Gone, fate, stamp_of}
 use Rattle.serial.proofs.Steps.Holding.{Suits, Holds}
 use Rattle.serial.proofs.Changes.Invariant.{Over, Tied, Distanced, Writer}
@@ -46,7 +46,7 @@ module _ (cells : Cells) (h : History) (m : Model) (H : Holds cells h m) where
       H.stamped.found t w (s.1 ∙ ap Some i)
 
   -- A commit that writer_past k.
-  module _ (d : Commit) (j : In d (commits h)) (k : ℕ) (y : ℤ) (put : last_put h d.number k ≡ Some y) where
+  module _ (d : Commit) (j : In d (commits h)) (k : ℕ) (y : ℤ) (put : last_prewritten h d.number k ≡ Some y) where
     -- It is past there.
     pub writer_past : Passed h d.number (ground_of k) d.stamp
     writer_past =
@@ -63,7 +63,7 @@ module _ (cells : Cells) (h : History) (m : Model) (H : Holds cells h m) where
 
     -- It is below, or above, a settled writer of the key.
     beside_settled : (u w : ℕ) (v : ℤ) → eqb d.number u ≡ false → fate h u (ground_of k) ≡ Past true (pos w) (pos w)
-        → last_put h u k ≡ Some v → (writer_past.upper <ℤ pos w) ⊎ (pos w <ℤ writer_past.lower)
+        → last_prewritten h u k ≡ Some v → (writer_past.upper <ℤ pos w) ⊎ (pos w <ℤ writer_past.lower)
     beside_settled u w v n e p =
         subst (λ f. Stand (Past writer_past.settled writer_past.lower writer_past.upper) f) e
         (subst (λ f. Stand f (fate h u (ground_of k))) writer_past.at (H.sound.distanced d.number u k y v n put p))
@@ -73,7 +73,7 @@ module _ (cells : Cells) (h : History) (m : Model) (H : Holds cells h m) where
 
     -- One that is not above a settled writer's stamp is below it.
     pub under_settled : (u w : ℕ) (v : ℤ) → eqb d.number u ≡ false → fate h u (ground_of k) ≡ Past true (pos w) (pos w)
-        → last_put h u k ≡ Some v → writer_past.upper ≤ℤ pos w → d.stamp < w
+        → last_prewritten h u k ≡ Some v → writer_past.upper ≤ℤ pos w → d.stamp < w
     under_settled u w v n e p q = go (beside_settled u w v n e p)
       where
         go : (writer_past.upper <ℤ pos w) ⊎ (pos w <ℤ writer_past.lower) → d.stamp < w

@@ -10,7 +10,7 @@ use Rattle.lines.specs.Locks.{row_of}
 use Rattle.lines.specs.declared.access.ReadLine.{ReadLine}
 use Rattle.lines.specs.declared.access.WriteLine.{WriteLine}
 use Rattle.register.specs.Calls.{read, read_by, prewrite, prewrite_by}
-use Rattle.register.specs.Checks.{open_now, cell_here, unless_past, unwritten, room_for}
+use Rattle.register.specs.Checks.{open_now, cell_here, unless_stopped, unwritten, room_for}
 use Rattle.register.specs.Model.{Model, read_of, write_of}
 use Rattle.register.specs.Noting.{new_rows, notes_of_read, notes_of_prewrite, read_added, prewrite_added}
 use Rattle.serial.proofs.Outcomes.Checks.{Out, after_cases, cell_some}
@@ -28,13 +28,13 @@ module _ (m : Model) (t k : ℕ) where
   -- The ways in which a read can end.
   pub read_cases : (Q : Out (ℤ × Stamp) → Type 0) → ((e : Refusal) → Q (m, Err e))
       → ((r : ReadLine) → open_now m t ≡ Ok tt → read_of m t k ≡ Some r → Q (m, Ok (r.value, r.seen)))
-      → ((c : Cell) → open_now m t ≡ Ok tt → m.cells k ≡ Some c → unless_past (row_of m.rows t (ground_of k)) ≡ Ok tt
+      → ((c : Cell) → open_now m t ≡ Ok tt → m.cells k ≡ Some c → unless_stopped (row_of m.rows t (ground_of k)) ≡ Ok tt
       → unwritten m t ≡ Ok tt → read_of m t k ≡ None → Q (read_added m t k c, Ok (c.value, c.write)))
       → Q (read m t k)
   read_cases Q refused again first =
       after_cases Q m (open_now m t) _ refused (λ _ a.
       after_cases Q m (cell_here (m.cells k)) _ refused (λ c b.
-      after_cases Q m (unless_past (row_of m.rows t (ground_of k))) _ refused (λ _ d.
+      after_cases Q m (unless_stopped (row_of m.rows t (ground_of k))) _ refused (λ _ d.
       after_cases Q m (unwritten m t) _ refused (λ _ e.
       read_end Q c refused (λ r f. again r a f) (λ f. first c a (cell_some (m.cells k) c b) d e f) (read_of m t k) refl))))
 
@@ -50,13 +50,13 @@ module _ (m : Model) (t k : ℕ) where
 
     -- The ways in which a prewrite can end.
     pub prewrite_cases : (Q : Out Unit → Type 0) → ((e : Refusal) → Q (m, Err e))
-        → ((w : WriteLine) → open_now m t ≡ Ok tt → unless_past (row_of m.rows t (ground_of k)) ≡ Ok tt → write_of m t k ≡ Some w
+        → ((w : WriteLine) → open_now m t ≡ Ok tt → unless_stopped (row_of m.rows t (ground_of k)) ≡ Ok tt → write_of m t k ≡ Some w
         → Q (prewrite_by (Some w) m t k v))
-        → ((c : Cell) → open_now m t ≡ Ok tt → m.cells k ≡ Some c → unless_past (row_of m.rows t (ground_of k)) ≡ Ok tt
+        → ((c : Cell) → open_now m t ≡ Ok tt → m.cells k ≡ Some c → unless_stopped (row_of m.rows t (ground_of k)) ≡ Ok tt
         → write_of m t k ≡ None → Q (prewrite_added m t k v, Ok tt))
         → Q (prewrite m t k v)
     prewrite_cases Q refused again first =
         after_cases Q m (open_now m t) _ refused (λ _ a.
         after_cases Q m (cell_here (m.cells k)) _ refused (λ c b.
-        after_cases Q m (unless_past (row_of m.rows t (ground_of k))) _ refused (λ _ d.
+        after_cases Q m (unless_stopped (row_of m.rows t (ground_of k))) _ refused (λ _ d.
         prewrite_end Q refused (λ w f. again w a d f) (λ f. first c a (cell_some (m.cells k) c b) d f) (write_of m t k) refl)))

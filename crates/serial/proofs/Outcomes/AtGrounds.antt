@@ -14,7 +14,8 @@ use Rattle.register.specs.Calls.{validate, settle, settle_by}
 use Rattle.register.specs.Checks.{open_now, decided_now, row_here, running}
 use Rattle.register.specs.Decisions.{settled}
 use Rattle.register.specs.Model.{Model, Chooses}
-use Rattle.register.specs.Validation.{raised_above, lowered_below, floors, ceilings, befores, afters, failed, passed}
+use Rattle.register.specs.Among.{raised_above, lowered_below}
+use Rattle.register.specs.Validation.{floors, ceilings, befores, afters, failed, passed}
 use Rattle.serial.proofs.Outcomes.Checks.{Out, after_cases, here_some}
 
 module _ (m : Model) (t g : ℕ) where

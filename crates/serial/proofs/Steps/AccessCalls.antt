@@ -7,7 +7,7 @@ use Rattle.wire.proofs.Clash.{clash}
 use Rattle.wire.specs.Keys.{ground_of}
 use Rattle.lines.specs.Locks.{row_of}
 use Rattle.register.specs.Calls.{Response, read, prewrite, done, value_reply}
-use Rattle.register.specs.Checks.{open_now, unless_past}
+use Rattle.register.specs.Checks.{open_now, unless_stopped}
 use Rattle.register.specs.Model.{Model}
 use Rattle.register.specs.declared.call.Call.{Call}
 use Rattle.register.specs.declared.call.Call.TheVariants as call
@@ -56,7 +56,7 @@ module _ (first : Cells) (m : Model) (h : History) (H : Holds first h m) where
       (λ w now free at. (prewrite_again first m h H.linked H.sound t k free v w at, stamped now free))
       (λ c now at free _. (prewrite_first first m h H.linked H.sound t k free v c at, stamped now free))
     where
-      stamped : open_now m t ≡ Ok tt → unless_past (row_of m.rows t (ground_of k)) ≡ Ok tt → Stamped ((call.Prewrite t k v, (Ok reply.Done)) ∷ h)
+      stamped : open_now m t ≡ Ok tt → unless_stopped (row_of m.rows t (ground_of k)) ≡ Ok tt → Stamped ((call.Prewrite t k v, (Ok reply.Done)) ∷ h)
       stamped now free =
           access_stamped (call.Prewrite t k v, (Ok reply.Done)) t k now (λ _. refl) refl
           (λ u j n. off_key_too t (ground_of k) u j (begun (fate h u j)) (fate h u j) n) (now_running m h H.linked t k free)

@@ -13,9 +13,9 @@ use Rattle.lines.specs.Locks.{live, row_of}
 use Rattle.lines.specs.declared.access.WriteLine.{WriteLine}
 use Rattle.lines.specs.declared.note.Note.{Note}
 use Rattle.lines.specs.declared.row.Row.{Row}
-use Rattle.register.specs.Checks.{unless_past}
+use Rattle.register.specs.Checks.{unless_stopped}
 use Rattle.register.specs.Model.{Model, write_of}
-use Rattle.serial.specs.Ledger.{History, last_put}
+use Rattle.serial.specs.Ledger.{History, last_prewritten}
 use Rattle.serial.proofs.Ledger.Fates.{Fate, Away, Running, begun, fate, seen, Unsettled, Live}
 use Rattle.serial.proofs.Steps.Holding.{view}
 use Rattle.serial.proofs.Changes.Invariant.{View, Sound}
@@ -33,11 +33,11 @@ module _ (h : History) (t k : ℕ) where
 module _ (m : Model) (h : History) (t k : ℕ) where
   -- The view after it, without the new line.
   abbrev pub accessed : List Note → View
-  accessed ns = record { fates = fates_after h t k; seen = seen h; put = last_put h; cells = m.cells; notes = ns }
+  accessed ns = record { fates = fates_after h t k; seen = seen h; put = last_prewritten h; cells = m.cells; notes = ns }
 
 module _ (m : Model) (h : History) (L : Linked h m) (k : ℕ) where
   -- A transaction that put a value into the key has a write line with it.
-  pub write_there : (u : ℕ) (y : ℤ) → last_put h u k ≡ Some y → (w : WriteLine) × (write_of m u k ≡ Some w) × (w.value ≡ y)
+  pub write_there : (u : ℕ) (y : ℤ) → last_prewritten h u k ≡ Some y → (w : WriteLine) × (write_of m u k ≡ Some w) × (w.value ≡ y)
   write_there u y p = line_there (λ x. x.value) (write_of m u k) y (sym (L.writes u k) ∙ p)
 
 module _ (m : Model) (h : History) (L : Linked h m) (t k : ℕ) where
@@ -50,7 +50,7 @@ module _ (m : Model) (h : History) (L : Linked h m) (t k : ℕ) where
       (off_key_too t (ground_of k) u (ground_of k) (begun (fate h u (ground_of k))) (fate h u (ground_of k)) (and_left (eqb t u) _ n)
       ∙ L.rows u (ground_of k)) l)
 
-  module _ (free : unless_past (row_of m.rows t (ground_of k)) ≡ Ok tt) where
+  module _ (free : unless_stopped (row_of m.rows t (ground_of k)) ≡ Ok tt) where
     -- Before it the transaction was away from the ground, or Running there.
     was_free : (fate h t (ground_of k) ≡ Away) ⊎ (fate h t (ground_of k) ≡ Running)
     was_free =
@@ -69,7 +69,7 @@ module _ (m : Model) (h : History) (L : Linked h m) (t k : ℕ) where
         at_key_too t (ground_of k) (begun (fate h t (ground_of k))) (fate h t (ground_of k)) ∙ by_free (λ f. begun f ≡ Running) refl refl
 
 module _ (first : Cells) (m : Model) (h : History) (L : Linked h m) (S : Sound first (view h m)) (t k : ℕ)
-    (free : unless_past (row_of m.rows t (ground_of k)) ≡ Ok tt) where
+    (free : unless_stopped (row_of m.rows t (ground_of k)) ≡ Ok tt) where
   -- The view after the access, without the new line, keeps the invariant.
   pub accessed_sound : (ns : List Note) → More m.notes ns → Sound first (accessed m h t k ns)
   accessed_sound ns more =

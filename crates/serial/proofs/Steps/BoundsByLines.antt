@@ -14,7 +14,8 @@ use Rattle.lines.specs.declared.access.ReadLine.{ReadLine}
 use Rattle.lines.specs.declared.access.WriteLine.{WriteLine}
 use Rattle.register.proofs.Raising.{raised_least}
 use Rattle.register.specs.Model.{Model, read_of, write_of}
-use Rattle.register.specs.Validation.{raise, raised_above, of_here, read_floor, stamps_of, write_floor, floors}
+use Rattle.register.specs.Among.{raise, raised_above}
+use Rattle.register.specs.Validation.{of_here, read_floor, stamps_of, write_floor, floors}
 use Rattle.serial.proofs.Lines.Kept.{line_passes}
 use Rattle.serial.proofs.Lines.Member.{In, in_left, in_right, in_joined, in_found}
 

@@ -17,7 +17,8 @@ use Rattle.lines.specs.declared.note.Order.TheVariants.{Before, Apart}
 use Rattle.lines.specs.declared.row.Row.{Row}
 use Rattle.register.proofs.Raising.{lowered_most}
 use Rattle.register.specs.Model.{Model}
-use Rattle.register.specs.Validation.{lower, raised_above, lowered_below, read_floor, write_floor, other_party, note_effect, effect_floor, effect_ceiling, floors, ceilings}
+use Rattle.register.specs.Among.{lower, raised_above, lowered_below, other_party, effect_floor, effect_ceiling}
+use Rattle.register.specs.Validation.{read_floor, write_floor, note_effect, floors, ceilings}
 use Rattle.serial.proofs.Lines.Member.{In, in_right, in_joined}
 use Rattle.serial.proofs.Steps.BoundsByLines.{raised_over}
 

@@ -5,7 +5,7 @@ use Rattle.std.proofs.Common.{◌≡◌, ℕ, true, ℤ, pos, ◌≤ℤ◌, Some
 use Rattle.std.specs.List.{AllByRecursion}
 use Rattle.store.specs.Stores.{Cells}
 use Rattle.register.specs.Model.{Model}
-use Rattle.serial.specs.Ledger.{History, Commit, commits, reads_of, last_put}
+use Rattle.serial.specs.Ledger.{History, Commit, commits, reads_of, last_prewritten}
 use Rattle.serial.proofs.Order.Arrangement.{Once}
 use Rattle.serial.proofs.Ledger.Fates.{Fate, Away, Running, Past, Gone, fate, seen, stamp_of}
 use Rattle.serial.proofs.Changes.Invariant.{View, Sound}
@@ -15,7 +15,7 @@ use Rattle.serial.proofs.Alone.StillPending.{LivePending}
 
 -- What the ledger says, with the register's cells and notes.
 abbrev pub view : History → Model → View
-view h m = record { fates = fate h; seen = seen h; put = last_put h; cells = m.cells; notes = m.notes }
+view h m = record { fates = fate h; seen = seen h; put = last_prewritten h; cells = m.cells; notes = m.notes }
 
 -- A stamp suits a ground: the transaction never touched it, or is past there with the stamp in its range.
 abbrev pub Suits : ℕ → Fate → Type 0

@@ -10,12 +10,12 @@ use Rattle.lines.specs.Locks.{row_of}
 use Rattle.lines.specs.declared.access.WriteLine.{WriteLine}
 use Rattle.lines.specs.declared.note.Note.{Note}
 use Rattle.register.specs.Calls.{prewrite_by}
-use Rattle.register.specs.Checks.{unless_past}
+use Rattle.register.specs.Checks.{unless_stopped}
 use Rattle.register.specs.Model.{Model, read_of, write_of}
 use Rattle.register.specs.Noting.{before_note, apart_note, notes_of_prewrite, prewrite_added}
 use Rattle.register.specs.declared.call.Call.TheVariants as call
 use Rattle.register.specs.declared.call.Reply.TheVariants as reply
-use Rattle.serial.specs.Ledger.{History, last_put}
+use Rattle.serial.specs.Ledger.{History, last_prewritten}
 use Rattle.serial.proofs.Changes.MetByPrewrite.{met_readers, met_writers}
 use Rattle.serial.proofs.Changes.Putting.{wrote}
 use Rattle.serial.proofs.Ledger.Fates.{seen, Live}
@@ -30,10 +30,10 @@ use Rattle.serial.proofs.Lines.ByKey.{eqb_turned, at_key_too, off_key_too}
 use Rattle.serial.proofs.Steps.Accessed.{fates_after, accessed, now_running, accessed_sound, live_other, write_there}
 
 module _ (first : Cells) (m : Model) (h : History) (L : Linked h m) (S : Sound first (view h m)) (t k : ℕ)
-    (free : unless_past (row_of m.rows t (ground_of k)) ≡ Ok tt) where
+    (free : unless_stopped (row_of m.rows t (ground_of k)) ≡ Ok tt) where
   -- What was put after a prewrite of v.
   abbrev put_after : ℤ → ℕ → ℕ → Option ℤ
-  put_after v u j = cond (eqb t u && (eqb k j && true)) (Some v) (last_put h u j)
+  put_after v u j = cond (eqb t u && (eqb k j && true)) (Some v) (last_prewritten h u j)
 
   -- A prewrite of a key that the transaction has prewritten keeps the invariant.
   pub prewrite_again : (v : ℤ) (w : WriteLine) → write_of m t k ≡ Some w
@@ -41,14 +41,14 @@ module _ (first : Cells) (m : Model) (h : History) (L : Linked h m) (S : Sound f
   prewrite_again v w had =
       let c = cell_there first (view h m) S t k w.value put_it in
       wrote first (accessed m h t k m.notes) T t k (now_running m h L t k free) (put_after v) v c.0 c.1
-      (λ u j n. off_key_too t k u j (Some v) (last_put h u j) n) (at_key_too t k (Some v) (last_put h t k))
+      (λ u j n. off_key_too t k u j (Some v) (last_prewritten h u j) n) (at_key_too t k (Some v) (last_prewritten h t k))
       (λ a x n s. T.ordered a t k x w.value (eqb_turned t a n) s put_it)
       (λ a y n s. T.distanced t a k w.value y n put_it s)
     where
       T : Sound first (accessed m h t k m.notes)
       T = accessed_sound first m h L S t k free m.notes (λ n i. i)
 
-      put_it : last_put h t k ≡ Some w.value
+      put_it : last_prewritten h t k ≡ Some w.value
       put_it = L.writes t k ∙ ap (option_map (λ x. x.value)) had
 
   -- So does a first prewrite of a key.
@@ -56,7 +56,7 @@ module _ (first : Cells) (m : Model) (h : History) (L : Linked h m) (S : Sound f
       → Sound first (view ((call.Prewrite t k v, (Ok reply.Done)) ∷ h) (prewrite_added m t k v))
   prewrite_first v c at =
       wrote first (accessed m h t k notes) T t k (now_running m h L t k free) (put_after v) v c at
-      (λ u j n. off_key_too t k u j (Some v) (last_put h u j) n) (at_key_too t k (Some v) (last_put h t k))
+      (λ u j n. off_key_too t k u j (Some v) (last_prewritten h u j) n) (at_key_too t k (Some v) (last_prewritten h t k))
       (met_readers first (accessed m h t k notes) T t k (now_running m h L t k free) readers writers)
       (met_writers first (accessed m h t k notes) T t k (now_running m h L t k free) readers writers)
     where
@@ -78,7 +78,7 @@ module _ (first : Cells) (m : Model) (h : History) (L : Linked h m) (S : Sound f
             refl,
           )
 
-      writers : (a : ℕ) (y : ℤ) → eqb t a ≡ false → last_put h a k ≡ Some y → Live (fates_after h t k a (ground_of k)) → Tied notes (ground_of k) t a
+      writers : (a : ℕ) (y : ℤ) → eqb t a ≡ false → last_prewritten h a k ≡ Some y → Live (fates_after h t k a (ground_of k)) → Tied notes (ground_of k) t a
       writers a y n s l =
           let w = write_there m h L k a y s in
           let r = live_other m h L t k a n l in (

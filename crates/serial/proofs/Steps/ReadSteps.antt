@@ -9,7 +9,7 @@ use Rattle.wire.specs.Keys.{ground_of}
 use Rattle.lines.specs.Locks.{row_of}
 use Rattle.lines.specs.declared.access.ReadLine.{ReadLine}
 use Rattle.lines.specs.declared.note.Note.{Note}
-use Rattle.register.specs.Checks.{unless_past}
+use Rattle.register.specs.Checks.{unless_stopped}
 use Rattle.register.specs.Model.{Model, read_of}
 use Rattle.register.specs.Noting.{before_note, notes_of_read, read_added}
 use Rattle.register.specs.declared.call.Call.TheVariants as call
@@ -51,7 +51,7 @@ module _ (first : Cells) (m : Model) (h : History) (L : Linked h m) (S : Sound f
       here (Past b l u) i = refl
       here Gone i = refl
 
-  module _ (free : unless_past (row_of m.rows t (ground_of k)) ≡ Ok tt) where
+  module _ (free : unless_stopped (row_of m.rows t (ground_of k)) ≡ Ok tt) where
     -- A first read of a key keeps the invariant.
     pub read_first : (c : Cell) → m.cells k ≡ Some c → read_of m t k ≡ None
         → Sound first (view ((call.Read t k, Ok (reply.Value c.value c.write)) ∷ h) (read_added m t k c))

@@ -14,7 +14,8 @@ use Rattle.lines.specs.declared.note.Order.TheVariants.{Before, Apart}
 use Rattle.lines.specs.declared.row.Row.{Row}
 use Rattle.register.specs.Checks.{running}
 use Rattle.register.specs.Model.{Model, Chooses, read_of, write_of}
-use Rattle.register.specs.Validation.{failed, passed, raised_above, lowered_below, floors, ceilings}
+use Rattle.register.specs.Among.{raised_above, lowered_below}
+use Rattle.register.specs.Validation.{failed, passed, floors, ceilings}
 use Rattle.register.specs.declared.call.Call.TheVariants as call
 use Rattle.register.specs.declared.call.Reply.TheVariants as reply
 use Rattle.serial.specs.Days.{Meaning}

@@ -3,11 +3,10 @@ use Rattle.lines.specs.declared.access.ReadLine.{ReadLine}
 use Rattle.lines.specs.declared.access.WriteLine.{WriteLine}
 use Rattle.lines.specs.declared.note.Note.{Note}
 use Rattle.lines.specs.declared.row.RowKey.{RowKey}
-use Rattle.register.specs.Among.{note_floors, note_ceilings}
+use Rattle.register.specs.Among.{note_floors, note_ceilings, raised_above, lowered_below}
 use Rattle.register.specs.Findings.{Marked}
 use Rattle.register.specs.Ranges.{range_of}
 use Rattle.register.specs.Registers.{model}
-use Rattle.register.specs.Validation.{raised_above, lowered_below}
 use Rattle.register.specs.declared.range.Range.{Range}
 use Rattle.register.proofs.Raising.{above_reads, above_writes, raised_floors, upper_left}
 use Rattle.register.proofs.register.Register.findings.Goals as goal

@@ -1,4 +1,5 @@
-use Rattle.std.proofs.Common.{◌≤◌, sym, refl, subst, rules}
+use Rattle.std.proofs.Common.{◌≤◌, sym, refl, ap, ◌∙◌, subst, rules}
+use Rattle.register.specs.Room.{one_if}
 use Rattle.register.proofs.Accessing.{room_kept, sound_kept}
 use Rattle.register.proofs.Registers.{same_register, same_rows, refuses}
 use Rattle.register.proofs.register.Register.prewrite.Goals as goal
@@ -30,5 +31,5 @@ invariant_of-rows g c =
     let added = c.add_with.ensures.rows in
     record {
       few = subst (λ n. n ≤ 256) (sym (room_kept _ _ _ _ added)) rows.few;
-      sound = sound_kept _ _ _ _ _ _ added c.additions_of_prewrite-additions.ensures.row rows.sound;
+      sound = sound_kept _ _ _ _ _ _ added (ap one_if c.additions_of_prewrite-additions.ensures.row ∙ c.in_ok-row.ensures.row) rows.sound;
     }

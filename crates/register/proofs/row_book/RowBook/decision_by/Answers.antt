@@ -1,6 +1,6 @@
 use Rattle.std.proofs.Common.{filter, rules}
 use Rattle.book.specs.Books.{held}
-use Rattle.register.specs.Deciding.{is_own}
+use Rattle.register.specs.Checks.{is_own}
 use Rattle.register.proofs.Deciding.{allows}
 use Rattle.register.proofs.row_book.RowBook.decision_by.Goals as goal
 

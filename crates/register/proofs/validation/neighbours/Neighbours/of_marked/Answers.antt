@@ -1,9 +1,8 @@
 use Rattle.std.proofs.Common.{◌≡◌, cond, List, [], ◌∷◌, ◌++◌, map, get_or, filter, sym, ap, ◌∙◌, subst, rules}
 use Rattle.std.proofs.lemmas.List.{take_all}
 use Rattle.lines.specs.declared.row.Row.{Row}
-use Rattle.register.specs.Among.{joins_among, befores_among, afters_among}
+use Rattle.register.specs.Among.{joins_among, befores_among, afters_among, is_before, is_after}
 use Rattle.register.specs.Findings.{unmarked, marks_among, Marked}
-use Rattle.register.specs.Validation.{is_before, is_after}
 use Rattle.register.proofs.Gathering.{no_row, longer, gather_more}
 use Rattle.register.proofs.validation.neighbours.Neighbours.of_marked.Goals as goal
 use Rattle.register.proofs.validation.neighbours.Neighbours.of_marked.Goals.{

@@ -1,8 +1,7 @@
 use Rattle.std.proofs.Common.{◌≡◌, ℕ, ◌≤◌, List, length, map, take, filter}
 use Rattle.lines.specs.declared.note.Note.{Note}
 use Rattle.register.specs.Findings.{Marked}
-use Rattle.register.specs.Among.{joins_among}
-use Rattle.register.specs.Validation.{is_before, is_after}
+use Rattle.register.specs.Among.{joins_among, is_before, is_after}
 use Rattle.register.proofs.validation.neighbours.Neighbours.of_marked.Given as goal
 
 -- The bounds so far are those of the marked rows passed.

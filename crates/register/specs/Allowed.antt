@@ -1,22 +1,11 @@
--- Which rows are a transaction's, and what its rows allow together, gathered row by row.
---   is_own t r         r is a row of the transaction t
---   is_running_own t r and it is Running
+-- The stamps that the rows of a transaction allow together, gathered row by row.
 --   any_stamp          every stamp: what is allowed where there is no row
 --   allowed_with a r   what a and the row r allow together
 --   allowed_by rs      what all rows of rs allow together
-use Rattle.std.specs.Prelude.{ℕ, Bool, ◌&&◌, List, pos, fold, ◌==◌}
+use Rattle.std.specs.Prelude.{List, pos, fold}
 use Rattle.std.specs.Int.{int_max, int_min}
 use Rattle.lines.specs.declared.row.Row.{Row}
-use Rattle.register.specs.Checks.{is_running}
 use Rattle.register.specs.declared.range.Range.{Range}
-
--- A row of the transaction.
-abbrev pub is_own : ℕ → Row → Bool
-is_own t r = r.transaction == t
-
--- A row of the transaction that is Running.
-abbrev pub is_running_own : ℕ → Row → Bool
-is_running_own t r = is_own t r && is_running r.state
 
 -- Every stamp from 0 to TOP.
 abbrev pub any_stamp : Range
