@@ -1,8 +1,10 @@
 -- What a pass over the notes finds, and the places that it marks.
 --   lower_noted, upper_noted    the bounds: raised and lowered by what follows from each note
 --   marks_are                   the marks: at each row, whether some note puts it on each of the two lists
-use Rattle.std.proofs.Common.{◌≡◌, ℕ, ◌+◌, ◌<◌, ◌≤◌, Bool, true, false, cond, ◌&&◌, ◌||◌, eqb, List, [], ◌∷◌, map, length, get_or, take, drop, set, replicate, Some, None, fold, Option, unwrap_or, sym, refl, ap, ◌∙◌, ⊎_elim, arith}
-use Rattle.std.proofs.lemmas.List.{length-set, length-take, length-map, length-replicate, get_or-set_same, get_or-set_other, get_or-take, get_or-map, get_or-replicate, ext_get_or, take-map, map-set}
+use Rattle.std.proofs.Common.{◌≡◌, ℕ, ◌+◌, ◌<◌, ◌≤◌, Bool, true, false, cond, ◌&&◌, ◌||◌, eqb, List, [], ◌∷◌, map, length, get_or, take, drop, set, replicate}
+use Rattle.std.proofs.Common.{Some, None, fold, Option, unwrap_or, sym, refl, ap, ◌∙◌, ⊎_elim, arith}
+use Rattle.std.proofs.lemmas.List.{length-set, length-take, length-map, length-replicate, get_or-set_same, get_or-set_other, get_or-take, get_or-map}
+use Rattle.std.proofs.lemmas.List.{get_or-replicate, ext_get_or, take-map, map-set}
 use Rattle.std.proofs.Math.Seq.{map-set_same}
 use lib.LanesLaws.{map-replicate}
 use Rattle.std.proofs.lemmas.Bool.{ne_eqb, eq-eqb, cases_eq, or_right, true≢false}

@@ -1,10 +1,14 @@
 -- A line is replaced at the place where it is found.
 --   replaced_at      the line at the place of the key k is the one that is replaced
 --   replaced_none    where there is no such place, nothing changes
+--   absent, present  where there is no such place there is no such line, and where there is one there is one
 --   held_set         a book after its line at a place that it has was replaced
-use Rattle.std.proofs.Common.{◌≡◌, ℕ, suc, ◌+◌, ◌<◌, Bool, true, false, cond, List, [], ◌∷◌, length, set, Some, None, refl, ap, ◌∙◌, arith}
+use Rattle.std.proofs.Common.{◌≡◌, ℕ, suc, ◌+◌, ◌<◌, Bool, true, false, cond, List, [], ◌∷◌, length, set, Some, None, refl, ap, ◌∙◌, arith, ◌≤◌, get_or, sym}
+use Rattle.std.proofs.Common.{⊎_elim, slice_get}
+use Rattle.std.proofs.lemmas.Option.{slice_get_cases}
 use Rattle.wire.proofs.Clash.{clash}
-use Rattle.book.specs.Books.{held, place_from, place, Replaced}
+use Rattle.book.proofs.Books.{line_at, line_at_place}
+use Rattle.book.specs.Books.{held, place_from, place, line_with, Replaced}
 use Rattle.book.specs.declared.book.Book.{Book}
 use Rattle.register.specs.Model.{replaced}
 
@@ -36,6 +40,19 @@ module _ {L K : Type 0} (same : K → K → Bool) (f : L → K) (k : K) where
   pub replaced_none : (x : L) (ys : List L) → place same f k ys ≡ None → replaced same f k x ys ≡ ys
   replaced_none x ys e = none_from 0 x ys e
 
+module _ {L K : Type 0} (same : K → K → Bool) (f : L → K) (k : K) (xs : List L) where
+  pub absent : place same f k xs ≡ None → line_with same f k xs ≡ None
+  absent e = sym (line_at_place same f k xs) ∙ ap (line_at xs) e
+
+  pub present : (i : ℕ) → place same f k xs ≡ Some i → i < length xs → (x : L) × (line_with same f k xs ≡ Some x)
+  present i e l =
+      ⊎_elim
+      (λ (h : (x : L) × (i < length xs) × (slice_get xs i ≡ Some x) × (get_or xs i x ≡ x)).
+      (h.0, sym (line_at_place same f k xs) ∙ (ap (line_at xs) e ∙ h.2)))
+      (λ (h : (length xs ≤ i) × (slice_get xs i ≡ None)). let past = h.0 in absurd (omega arith))
+      (slice_get_cases xs i).1
+
+-- A book after its line at a place that it has was replaced.
 pub held_set : {L : Type 0} (i : ℕ) (x : L) (b d : Book L) (r : Bool) → Replaced i x b d r → i < length (held b) → held d ≡ set (held b) i x
 held_set i x b d true h l = h.1
 held_set i x b d false h l = let past = h.0 in absurd (omega arith)

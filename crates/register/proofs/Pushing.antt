@@ -4,7 +4,8 @@
 --   push_all          all have
 --   nth_holds         what holds of all lines holds of the one at a place
 --   pushed_bounded    a row within its limits stays within them
-use Rattle.std.proofs.Common.{◌≡◌, ℕ, ◌+◌, ◌<◌, ◌≤◌, Bool, true, false, List, ◌++◌, map, length, get_or, take, drop, set, ℤ, pos, ◌≤ℤ◌, Some, sym, ap, ◌∙◌, subst, append-nil, arith, ◌-◌, drop-drop}
+use Rattle.std.proofs.Common.{◌≡◌, ℕ, ◌+◌, ◌<◌, ◌≤◌, Bool, true, false, List, ◌++◌, map, length, get_or, take, drop, set, ℤ, pos, ◌≤ℤ◌, Some, sym, ap, ◌∙◌}
+use Rattle.std.proofs.Common.{subst, append-nil, arith, ◌-◌, drop-drop}
 use Rattle.std.proofs.lemmas.List.Edits.{map_over_more}
 use Rattle.std.proofs.ByRecursion.{All-get_or}
 use Rattle.std.proofs.lemmas.List.{get_or_at, length-map, length-take-le, drop_more, take_all, drop_all}

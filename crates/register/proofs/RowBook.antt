@@ -6,7 +6,8 @@
 --   sound_added       of rows and the first row of a transaction at a ground
 --   sound_replaced    of rows one of which is replaced by another of its key
 --   sound_set         of rows one of which is replaced, at its place, by another of its key
-use Rattle.std.proofs.Common.{◌≡◌, ℕ, ◌≤◌, Bool, true, false, cond, eqb, ℤ, ◌≤ℤ◌, List, [], ◌∷◌, ◌++◌, map, length, get_or, set, IfSome, Some, None, sym, refl, subst, arith}
+use Rattle.std.proofs.Common.{◌≡◌, ℕ, ◌≤◌, Bool, true, false, cond, eqb, ℤ, ◌≤ℤ◌, List, [], ◌∷◌, ◌++◌, map, length, get_or, set, IfSome, Some, None, sym}
+use Rattle.std.proofs.Common.{refl, subst, arith}
 use mathlib.Core.HLevel.{×_prop}
 use mathlib.Core.Logic.{∥∥₁_elim}
 use Rattle.std.proofs.Props.{props}

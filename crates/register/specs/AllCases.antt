@@ -1,4 +1,5 @@
 -- All worked cases hold.
+--   Extremes    the two extreme values
 --   all_cases   the worked cases and the longer days
 --   CasesHold   each of them holds; what some of them leave in the books, and the two extreme values
 use Rattle.std.specs.Prelude.{◌≡◌, List, ◌++◌, pos, negsuc, Ok}

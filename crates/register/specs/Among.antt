@@ -1,6 +1,9 @@
 -- What notes mean for a validation of transaction t at ground g, by lists of rows and notes.
+--   raise l x, lower u x            a bound raised above x, or lowered below x
 --   raised_above, lowered_below     a bound raised above each of some numbers, or lowered below each
+--   other_party n t                 the other party of the note n
 --   effect_among rows t g n         what follows from the note n
+--   is_before, is_after             whether that puts the other row on a list
 --   note_floors, note_ceilings      what the notes raise the range above, and what they lower it below
 --   joins_among                     whether some note puts a row on a list
 --   befores_among, afters_among     the lowers of the before rows and the uppers of the after rows

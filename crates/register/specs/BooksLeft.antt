@@ -1,4 +1,5 @@
--- What some cases leave in the books, where docs/cases.md tells of bounds and notes.
+-- What some cases leave in the books: six of docs/cases.md, which tells of their bounds and notes, and three longer days.
+--   BooksLeft             all that is told of them
 --   Leaves c rows notes   the case c leaves these rows and these notes
 use Rattle.std.specs.Prelude.{◌≡◌, ℕ, List, [], ◌∷◌, pos}
 use Rattle.lines.specs.Rows.{new_row, with_bounds}

@@ -1,5 +1,6 @@
 -- The seven calls: the register and the answer after each, with its checks in their order.
 --   begin, read, prewrite, validate, decide, withdraw, settle
+--   Response             a reply, or a refusal
 --   step P m c           the register and the response after the call c, under the policy P
 --   left_by, responses   the register after some calls, and their responses
 use Rattle.std.specs.Prelude.{ℕ, cond, List, [], ◌∷◌, ◌++◌, length, ℤ, Some, None, Ok, Err, Option, Result, int_lt}
@@ -112,7 +113,7 @@ decide m t =
 abbrev pub withdraw : Model → ℕ → Model × Result Unit Refusal
 withdraw m t = after m (open_now m t) (λ _. (decided_as m t Aborted, Ok tt))
 
--- The end of a settlement, by what the row answers to its event: refusal 10 where it is finished already.
+-- The end of a settlement, by what the row answers to its event: refusal 10 where it is finished already, and 8 where no run comes.
 abbrev pub settle_by : Result Unit Refusal → Model → ℕ → ℕ → Row → Event → Model × Result Unit Refusal
 settle_by (Ok u) m t g r e = (settled m t g r e, Ok tt)
 settle_by (Err x) m t g r e = (m, Err x)

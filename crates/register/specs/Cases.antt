@@ -1,5 +1,7 @@
 -- A worked case: calls on a new register, each with the reply that it should get.
 --   Case                  the first cells, the rooms, the policy, the calls with their responses, and some cells at the end
+--   full                  the rooms of books with all the memory that their limits allow
+--   cells_at, calls_of    the cells that a list names, and the calls of a case
 --   outcome c, wanted c   what the model makes of a case, and what the case says of it
 --   Holds c               these are the same
 use Rattle.std.specs.Prelude.{◌≡◌, ℕ, cond, List, [], ◌∷◌, map, ℤ, pos, Some, None, Ok, Err, Option, ◌==◌}

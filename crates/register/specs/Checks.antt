@@ -1,18 +1,20 @@
 -- The checks of the calls, each with its refusal.
 --   after m r f       f of what the check r passed on; or its refusal, which leaves the register m as it stood
+--   new_number        refusal 1: a number above all begun, up to 4,095
+--   room_for          refusal 2: room for so many more lines; has_room is that of one book
 --   open_now          refusals 3 and 4: a transaction that was begun and is not decided
 --   decided_now       refusals 3 and 9: what the decision of one that is decided means for its rows
---   row_here          refusal 6: the transaction's row at a ground
---   running           refusal 5: that row is Running
+--   running           refusal 5: a row is Running; is_running, is_aborted tell of its state
 --   unless_stopped    refusal 5: there is no row yet, or it is Running
+--   row_here          refusal 6: the transaction's row at a ground
 --   unwritten         refusal 7: the transaction has prewritten nothing
---   lets_pass r       the check that r makes, whatever it finds
---   is_write_of t w   w is a write line of the transaction t
---   is_own t r        r is a row of the transaction t; is_running_own that it is Running too
 --   none_running      refusal 8: none of its rows is Running
 --   cell_here         refusal 11: the cell of a key
---   new_number        refusal 1: a number above all begun, up to 4,095
---   room_for          refusal 2: room for so many more lines
+--   lets_pass r       the check that r makes, whatever it finds
+--   is_write_of t w   w is a write line of the transaction t
+--   is_own t r        r is a row of the transaction t
+--   is_running_own t r   and it is Running
+--   any               some line passes a test
 use Rattle.std.specs.Prelude.{ℕ, ◌+◌, Bool, true, false, cond, ◌&&◌, List, map, length, Some, None, Ok, Err, Option, Result, ◌==◌, nat_le, nat_lt}
 -- Some line passes a test.
 pub use Rattle.std.specs.List.{list_any as any}

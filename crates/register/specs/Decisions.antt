@@ -1,7 +1,10 @@
 -- What a decision and a settlement work out.
+--   rows_of m t             the rows of t
 --   decision_by m t         Aborted if a row of t is; else Committed at the largest lower if no upper lies below it; else Aborted
+--   decision_of, decision_in   the same by rows, and by a range
 --   decided_as m t d        the register with t's decision
 --   settled_cells m t g c   the cells after t, Committed at c, is settled at ground g
+--   settled m t g r e       the register after a settlement
 use Rattle.std.specs.Prelude.{ℕ, cond, eqb, List, map, ℤ, pos, Some, None, fold, filter, Option, ◌==◌, int_lt, nat_lt}
 use Rattle.std.specs.Int.{int_max, int_min}
 use Rattle.std.specs.Option.{option_map}

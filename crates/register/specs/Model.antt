@@ -1,7 +1,9 @@
 -- The register as the rules see it: cells, five lists of lines in the order written, and how many lines each book has room for.
---   Model                                  all of that
+--   Model, Rooms                           all of that; how many lines each book can hold
+--   Chooses                                what a policy answers
+--   new cells rooms                        a register with empty books
 --   transaction_of, read_of, write_of      the first line of its key, or nothing
---   with_transactions, with_rows, ..       the same register with one list replaced
+--   with_transactions, with_rows, with_writes   the same register with one list replaced
 --   replaced same f k x xs                 the list xs with x in the place of its first line of key k
 use Rattle.std.specs.Prelude.{ℕ, Bool, cond, List, [], ◌∷◌, ℤ, Option, nat_eq}
 use Rattle.store.specs.Stores.{Cells}

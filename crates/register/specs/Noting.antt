@@ -1,6 +1,9 @@
 -- What a read and a prewrite write: their line, a row where the transaction has none yet, and notes for the soft locks they meet.
+--   locks_on rows k xs                the transactions of the lines xs on the key k whose locks stand
 --   read_locks m k, write_locks m k   the transactions whose soft locks stand on the key k, in the order of their lines
+--   before_note, apart_note           the two kinds of note
 --   notes_of_read, notes_of_prewrite  the notes that a call writes
+--   new_rows m t k                    the row that a call writes, where there is none
 --   read_added, prewrite_added        the register with all that the call writes
 use Rattle.std.specs.Prelude.{ℕ, cond, ◌&&◌, List, [], ◌∷◌, ◌++◌, map, ℤ, Some, None, Option, ◌==◌}
 use Rattle.store.specs.declared.cell.Cell.{Cell}

@@ -1,4 +1,5 @@
 -- What a register keeps of its rows.
+--   SoundRows rs   bounds are within their limits, and no two rows are of one transaction and ground
 use Rattle.std.specs.Prelude.{List, map}
 use Rattle.std.specs.List.{IsDistinct, AllByRecursion}
 use Rattle.lines.specs.LineKeys.{row_key, same_row}

@@ -1,6 +1,10 @@
 -- What a validation of transaction t at ground g works out.
+--   of_here t g u k                   a line of the transaction u at the key k is one of t at g
+--   note_effect m t g n               what follows from the note n
 --   floors m t g, ceilings m t g      what the range has to lie above, and what it has to lie below
+--   joins on m t g r                  whether some note puts the row r on a list
 --   befores m t g, afters m t g       the lowers of the before rows and the uppers of the after rows, in the order of the row book
+--   pushed, row_moved                 a row that makes way; the rows with the transaction's own row moved
 --   failed, passed                    the register after a validation that failed, and after one that passed with a range
 use Rattle.std.specs.Prelude.{ℕ, Bool, cond, ◌&&◌, List, [], ◌∷◌, ◌++◌, map, ℤ, pos, Some, None, Option, ◌==◌}
 use Rattle.std.specs.List.{flat_map}

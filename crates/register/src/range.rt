@@ -31,7 +31,7 @@ impl Range {
         self
     }
 
-    // Those of them that lie below a number. One function for both sides would take each step as a parameter.
+    // Those of them that lie below a number.
     pub fn below(mut self, number: i32) -> Range
         requires { pos 0 ≤ℤ number }
         ensures { result ≡ below self number }

@@ -1,4 +1,5 @@
 -- The ledger, and that the books say the same.
+pub mod InOrder
 pub mod Fates
 pub mod Linked
 pub mod LinkedRows

@@ -1,5 +1,4 @@
 -- From the invariant to the serial order.
-pub mod Arrangement
 pub mod LastWriter
 pub mod OrderTells
 pub mod Writers

@@ -1,4 +1,4 @@
--- Every call makes one of those changes.
+-- Every call makes one of the changes of Changes.antt.
 pub mod Holding
 pub mod BoundsByLines
 pub mod BoundsByNotes
@@ -12,8 +12,8 @@ pub mod ValidateSteps
 pub mod AbortOrCommit
 pub mod SettleSteps
 pub mod StampedSteps
-pub mod AlikeSteps
-pub mod RefusedCalls
+pub mod ReadsAgain
+pub mod Lasting
 pub mod AccessCalls
 pub mod EndingCalls
 pub mod AllSteps

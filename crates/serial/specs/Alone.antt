@@ -1,7 +1,9 @@
 -- A transaction that has the register to itself commits while stamps last.
 --   NonePending h      no transaction is pending at any ground
+--   caller c           the transaction that makes the call c
 --   keys_of h t        the keys of t's accepted reads and prewrites
 --   Fresh cells k      both stamps of the cell at k, if there is one, are below TOP
+--   Commits r          the response r is a decision that commits
 --   CommitsAlone       t commits, if it begins while none is pending and makes the only calls until its decide
 --   AloneIn, Alone     of some calls on a new register, and on every day
 use Rattle.std.specs.Prelude.{◌≡◌, ℕ, ◌<◌, true, false, cond, ◌&&◌, List, [], ◌∷◌, ◌++◌, Some, None, Option, ◌==◌, Ok}
@@ -58,7 +60,7 @@ Fresh cells k = fresh_cell (cells k)
 abbrev pub Commits : Response → Type 0
 Commits r = (c : Stamp) × (r ≡ Ok (Committed c))
 
--- On a day, t begins while none is pending, and makes the calls own and no other is made until its decide, which is accepted. It is
+-- On a day, t begins while none is pending; then only the calls own are made, all by t, until its decide, which is accepted. It is
 -- committed by that, if every stamp in its cells, as its begin finds them, is below TOP.
 abbrev pub CommitsAlone : Chooses → Day → ℕ → List Call → Type 0
 CommitsAlone P before t own =

@@ -2,6 +2,7 @@
 --   told h ts vs       each accepted read of the transactions ts, in their order, was answered what it finds, from the values vs on
 --   after_all h ts vs  the values at the end
 --   in_order cs        commits by rising stamp, equal stamps by rising number
+--   serial_order h     the transactions that committed, in that order
 use Rattle.std.specs.Prelude.{ℕ, Bool, true, false, cond, ◌&&◌, ◌||◌, List, [], ◌∷◌, map, ℤ, pos, negsuc, Some, None, Option, ◌==◌, nat_lt}
 use Rattle.std.specs.Option.{option_map}
 use Rattle.store.specs.Stores.{Cells}

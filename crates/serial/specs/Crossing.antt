@@ -26,7 +26,7 @@ owing = day_after near_range (new_day morning full) (take 15 (calls_of crossing)
 abbrev pub evening : Day
 evening = day_after near_range (new_day morning full) (calls_of crossing)
 
--- A transaction begins then, while none is pending, and makes these calls and no other is made.
+-- A transaction begins then, while none is pending, and only these calls are made, all by it.
 abbrev pub own_calls : List Call
 own_calls = Read 4 0 ∷ Read 4 8192 ∷ Prewrite 4 0 (pos 40) ∷ Validate 4 0 ∷ Validate 4 1 ∷ []
 

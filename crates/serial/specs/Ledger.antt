@@ -1,7 +1,9 @@
 -- The ledger: what the calls of a day and their responses alone say. A history has its newest entry first.
+--   History               calls with their responses
+--   accepted r            the response r is a reply
 --   reads_of h t          the keys and values of t's accepted reads
---   last_prewritten h t k        the value of t's last accepted prewrite of k, or nothing
---   commits h             who committed, and at which stamp
+--   last_prewritten h t k   the value of t's last accepted prewrite of k, or nothing
+--   commits h             who committed, and at which stamp (Commit)
 --   pending h t g         t touched the ground g, and has neither failed its validation there nor been settled there since
 --   owed h g              a committed transaction is pending at the ground g
 --   nothing_owed gs h     no committed transaction is pending at any of the grounds gs

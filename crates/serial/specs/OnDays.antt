@@ -1,6 +1,6 @@
 -- The serial run of the worked days.
---   DaysAreSerial   on each of them the serial order tells every reader what it was answered, and, where nothing is owed, ends with
---                   the values that the day's cells were worked out to hold
+--   DaysAreSerial   on each of them the serial order tells every committed reader what it was answered, and, where nothing is owed,
+--                   ends with the values that the day's cells were worked out to hold
 use Rattle.std.specs.Prelude.{◌≡◌, ℕ, Bool, true, not, ◌&&◌, ◌||◌, List, [], ◌∷◌, reverse}
 use Rattle.register.specs.Cases.{Case, Figures, cells_at}
 use Rattle.register.specs.AllCases.{all_cases}

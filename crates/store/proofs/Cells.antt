@@ -1,5 +1,6 @@
 -- What writing a cell's three words leaves in memory.
-use Rattle.std.proofs.Common.{◌≡◌, ℕ, zero, suc, ◌+◌, ◌<◌, ◌≢◌, List, [], ◌∷◌, ◌++◌, length, get_or, set, take, drop, refl, ap, arith, length-set, get_or-set_other}
+use Rattle.std.proofs.Common.{◌≡◌, ℕ, zero, suc, ◌+◌, ◌<◌, ◌≢◌, List, [], ◌∷◌, ◌++◌, length, get_or, set, take, drop, refl, ap, arith, length-set}
+use Rattle.std.proofs.Common.{get_or-set_other}
 
 -- Three words in a row.
 abbrev pub three : List ℕ → ℕ → ℕ → ℕ → ℕ → List ℕ

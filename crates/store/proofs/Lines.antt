@@ -1,5 +1,6 @@
 -- Lines as lists of their words are the lines by number in memory.
-use Rattle.std.proofs.Common.{◌≡◌, ℕ, zero, suc, ◌+◌, ◌-◌, ◌*◌, ◌/◌, ◌%◌, ◌<◌, ◌≤◌, List, length, get_or, take, drop, Ok, Some, None, Option, refl, ap, sym, ◌∙◌, add_assoc, add-one, add-zero, zero-add, mul-zero, cond, ◌||◌, ltb, lit<, arith}
+use Rattle.std.proofs.Common.{◌≡◌, ℕ, zero, suc, ◌+◌, ◌-◌, ◌*◌, ◌/◌, ◌%◌, ◌<◌, ◌≤◌, List, length, get_or, take, drop, Ok, Some, None, Option, refl, ap, sym}
+use Rattle.std.proofs.Common.{◌∙◌, add_assoc, add-one, add-zero, zero-add, mul-zero, cond, ◌||◌, ltb, lit<, arith}
 use Rattle.std.proofs.Math.Nat.{mul-suc}
 use Rattle.std.proofs.lemmas.Bool.{le-leb, ne_eqb}
 use Rattle.std.proofs.lemmas.List.{get_or-drop, get_or-take, drop-drop}

@@ -1,5 +1,6 @@
 -- What a sparse store finds, and putting a cell into one.
-use Rattle.std.proofs.Common.{◌≡◌, ℕ, zero, suc, ◌+◌, ◌-◌, ◌*◌, ◌/◌, ◌<◌, Bool, true, false, cond, not, eqb, ltb, List, length, get_or, is_some, Result, Some, None, Ok, Option, sym, refl, ap, ◌∙◌, ⊎_elim, sub-one, arith}
+use Rattle.std.proofs.Common.{◌≡◌, ℕ, zero, suc, ◌+◌, ◌-◌, ◌*◌, ◌/◌, ◌<◌, Bool, true, false, cond, not, eqb, ltb, List, length, get_or, is_some, Result, Some}
+use Rattle.std.proofs.Common.{None, Ok, Option, sym, refl, ap, ◌∙◌, ⊎_elim, sub-one, arith}
 use Rattle.std.proofs.lemmas.Bool.{cases_eq, eqb-true, ltb-true, or_cases}
 use Rattle.std.specs.List.Sorted.{IsBinarySearchResult, IsSearchInRange}
 use Rattle.std.specs.Option.{option_map}

@@ -6,7 +6,8 @@
 --   width l, most l        how many words a line of a layout has, and how many lines a store of it at most
 --   line_cause l ws i      what is wrong with line i, if anything
 --   shape_cause l ws       what is wrong with the length of memory, if anything
-use Rattle.std.specs.Prelude.{◌≡◌, ℕ, ◌+◌, ◌-◌, ◌*◌, ◌/◌, ◌%◌, cond, ◌||◌, List, [], ◌∷◌, length, Some, None, Ok, Err, Option, Result, ◌==◌, nat_le, nat_lt, slice_index, slice_set}
+use Rattle.std.specs.Prelude.{◌≡◌, ℕ, ◌+◌, ◌-◌, ◌*◌, ◌/◌, ◌%◌, cond, ◌||◌, List, [], ◌∷◌, length, Some, None, Ok, Err, Option, Result, ◌==◌, nat_le, nat_lt}
+use Rattle.std.specs.Prelude.{slice_index, slice_set}
 use Rattle.wire.specs.Stamps.{stamp}
 use Rattle.wire.specs.Values.{value_of}
 use Rattle.wire.specs.declared.word.StampKind.TheVariants.{Write, Read}

@@ -4,7 +4,8 @@ use Rattle.std.proofs.Math.Nat.{sub-zero, sub_self}
 use Rattle.std.proofs.lemmas.Bool.{cases_Bool, le-ltb, ne_eqb}
 use Rattle.std.proofs.lemmas.List.{append-nil}
 use Rattle.std.specs.List.{repeat}
-use Rattle.std.specs.Fmt.{decimal, signed_decimal, styled_decimal, styled_signed_decimal, styled_text, padded, padded_integral, format_spec, take_chars, char_count, is_char_start}
+use Rattle.std.specs.Fmt.{decimal, signed_decimal, styled_decimal, styled_signed_decimal, styled_text, padded, padded_integral, format_spec, take_chars}
+use Rattle.std.specs.Fmt.{char_count, is_char_start}
 use Rattle.survey.specs.declared.offset.Direction.{Direction}
 use Rattle.survey.specs.declared.offset.Direction.TheVariants.{East, West, North, South}
 use Rattle.survey.specs.Offsets.{name_of}

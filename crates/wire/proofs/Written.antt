@@ -1,10 +1,12 @@
 -- Reading and writing messages undo each other.
-use Rattle.std.proofs.Common.{◌≡◌, ℕ, ◌+◌, ◌*◌, ◌/◌, ◌≤◌, true, cond, ◌&&◌, eqb, leb, List, [], ◌∷◌, ◌++◌, length, take, Some, None, Option, sym, refl, ap, ◌∙◌, inl, inr, one-add, arith, length-append, length-take}
+use Rattle.std.proofs.Common.{◌≡◌, ℕ, ◌+◌, ◌*◌, ◌/◌, ◌≤◌, true, cond, ◌&&◌, eqb, leb, List, [], ◌∷◌, ◌++◌, length, take, Some, None, Option, sym, refl, ap}
+use Rattle.std.proofs.Common.{◌∙◌, inl, inr, one-add, arith, length-append, length-take}
 use lib.Seq.{take-append_seam}
 use Rattle.std.proofs.lemmas.Bool.{cases_Bool, and_parts, and_from, eqb-true, le-leb, leb-true, cond-true, cond-false}
 use Rattle.wire.specs.declared.kind.Kind.{Kind}
 use Rattle.wire.specs.declared.kind.Kind.TheVariants as kind
-use Rattle.wire.specs.Messages.{Said, begins, reads, prewrites, validates, decides, withdraws, settles, pairs_good, count_good, bare, prewritten, headed, first_message, head_word, head_of, pairs_of, sayable, written, ReadsBack, WritesBack}
+use Rattle.wire.specs.Messages.{Said, begins, reads, prewrites, validates, decides, withdraws, settles, pairs_good, count_good, bare, prewritten, headed}
+use Rattle.wire.specs.Messages.{first_message, head_word, head_of, pairs_of, sayable, written, ReadsBack, WritesBack}
 use Rattle.wire.specs.Kinds.{kind_number}
 use Rattle.wire.specs.Words.{kind_of, middle_of, low_of}
 use Rattle.wire.proofs.Chunks.{pairs_even}

@@ -4,7 +4,8 @@
 --   first_message ws   the message that the words begin with and how many words it takes, or nothing
 --   reading ws         what reading answers: that, or the refusal and how many words were passed over
 --   written m          the words of a message, or nothing where no words say it
-use Rattle.std.specs.Prelude.{◌≡◌, ℕ, ◌+◌, ◌*◌, ◌/◌, min, Bool, true, false, cond, ◌&&◌, List, [], ◌∷◌, ◌++◌, length, take, ℤ, is_some, Some, None, Ok, Err, Option, Result, ◌==◌, nat_le, nat_lt, slice_index}
+use Rattle.std.specs.Prelude.{◌≡◌, ℕ, ◌+◌, ◌*◌, ◌/◌, min, Bool, true, false, cond, ◌&&◌, List, [], ◌∷◌, ◌++◌, length, take, ℤ, is_some, Some, None, Ok, Err}
+use Rattle.std.specs.Prelude.{Option, Result, ◌==◌, nat_le, nat_lt, slice_index}
 use Rattle.wire.specs.declared.kind.Kind.{Kind}
 use Rattle.wire.specs.declared.kind.Kind.TheVariants as kind
 use Rattle.wire.specs.declared.message.Message.{Message}

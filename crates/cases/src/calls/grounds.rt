@@ -1,7 +1,7 @@
-use crate::calls::script::{
-    ABORTED, ALL, DONE, begin, commit, decide, play, prewrite, range, read, validate, value,
+use crate::calls::{
+    ABORTED, ALL, DONE, Memory, THREE_CELLS, begin, commit, decide, eight_grounds, play, prewrite,
+    range, read, validate, value,
 };
-use crate::calls::{EIGHT_GROUNDS, Memory, THREE_CELLS};
 use policy::near::Near;
 use store::memory::flat::Flat;
 use store::memory::sparse::Sparse;
@@ -13,7 +13,7 @@ use wire::stamp::TOP;
 // largest lower bound, 71, is that of ground 3.
 #[test]
 fn one_transaction_touches_eight_grounds(rt: HostRuntime) {
-    let mut words = EIGHT_GROUNDS;
+    let mut words = eight_grounds();
     for ground in 0..8_u32 {
         words[4 * ground as usize + 1] = 0x9000_8000 + ground;
         words[4 * ground as usize + 2] = 0xE000_0000 + 10 * ((ground + 4) % 8);
@@ -51,7 +51,7 @@ fn one_transaction_touches_eight_grounds(rt: HostRuntime) {
 // The seventh ground has no stamp left: one Aborted row outweighs seven that passed.
 #[test]
 fn one_ground_of_eight_aborts(rt: HostRuntime) {
-    let mut words = EIGHT_GROUNDS;
+    let mut words = eight_grounds();
     words[4 * 6 + 2] = 0xE000_0000 + TOP;
     let mut memory = Memory::<1, 8, 0, 8, 0>::blank();
     let mut register = memory.register(Sparse::new(&mut words), Near);
@@ -66,7 +66,7 @@ fn one_ground_of_eight_aborts(rt: HostRuntime) {
     play(&rt, &mut register, &[(decide(1), ABORTED)]);
 }
 
-// Each of two read what the other is about to write. At either ground the one that is validated first takes 1 to 1,024; a note of the
+// Each of two reads what the other is about to write. At either ground the one that is validated first takes 1 to 1,024; a note of the
 // other ground plays no part.
 #[test]
 fn ranges_of_two_grounds_do_not_meet(rt: HostRuntime) {

@@ -1,8 +1,7 @@
-use crate::calls::script::{
-    ABORTED, ALL, DONE, begin, commit, decide, play, prewrite, range, read, validate, value,
-    withdraw,
+use crate::calls::{
+    ABORTED, ALL, DONE, Memory, THREE_CELLS, begin, commit, decide, play, prewrite, range, read,
+    validate, value, withdraw,
 };
-use crate::calls::{Memory, THREE_CELLS};
 use policy::near::Near;
 use store::memory::sparse::Sparse;
 use wire::refusal::Refusal;

@@ -1,7 +1,7 @@
-use crate::calls::script::{
-    ABORTED, DONE, Response, begin, commit, decide, play, prewrite, range, read, validate, value,
+use crate::calls::{
+    ABORTED, DONE, Memory, Response, THREE_CELLS, begin, commit, decide, play, prewrite, range,
+    read, validate, value,
 };
-use crate::calls::{Memory, THREE_CELLS};
 use policy::near::Near;
 use policy::policy::Policy;
 use policy::whole::Whole;

@@ -1,8 +1,7 @@
-use crate::calls::script::{
-    ABORTED, ALL, DONE, begin, commit, decide, make, play, prewrite, read, validate, value,
-    withdraw,
+use crate::calls::{
+    ABORTED, ALL, DONE, Memory, THREE_CELLS, begin, commit, decide, make, play, prewrite, read,
+    validate, value, withdraw,
 };
-use crate::calls::{Memory, THREE_CELLS};
 use policy::near::Near;
 use policy::policy::Policy;
 use policy::whole::Whole;
@@ -13,7 +12,7 @@ use store::store::Store;
 use wire::refusal::Refusal;
 use wire::stamp::TOP;
 
-// Every call but begin refuses a transaction with the same refusal, whatever key or ground it names.
+// Every call that is code, but begin, refuses a transaction with the same refusal, whatever key or ground it names.
 fn refuse_all<S: Store, P: Policy>(
     rt: &impl Abort,
     register: &mut Register<'_, S, P>,
@@ -32,7 +31,7 @@ fn refuse_all<S: Store, P: Policy>(
         withdraw(transaction),
     ];
     for call in calls {
-        assert_eq!(rt; make(register, call), Err(refusal), "{call:?}");
+        assert_eq!(rt; make(rt, register, call), Err(refusal), "{call:?}");
     }
 }
 

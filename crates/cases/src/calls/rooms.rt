@@ -1,7 +1,7 @@
-use crate::calls::script::{
-    ABORTED, ALL, DONE, begin, play, prewrite, range, read, validate, value, withdraw,
+use crate::calls::{
+    ABORTED, ALL, DONE, Memory, THREE_CELLS, begin, eight_grounds, play, prewrite, range, read,
+    validate, value, withdraw,
 };
-use crate::calls::{EIGHT_GROUNDS, Memory, THREE_CELLS};
 use lines::access::ReadLine;
 use lines::transaction::{Decision, Transaction};
 use policy::near::Near;
@@ -102,7 +102,7 @@ fn the_sixty_fifth_is_not_begun(rt: HostRuntime) {
 
 #[test]
 fn two_hundred_and_fifty_six_rows(rt: HostRuntime) {
-    let mut words = EIGHT_GROUNDS;
+    let mut words = eight_grounds();
     let mut memory = Memory::<64, 300, 300, 0, 0>::blank();
     let mut register = memory.register(Sparse::new(&mut words), Near);
     for transaction in 1..33_u32 {
@@ -149,7 +149,7 @@ fn five_hundred_and_twelve_reads_and_writes(rt: HostRuntime) {
 // three, and four a fifth, which takes six. That is 4,096, though memory is lent for more: after it one note does not fit, and none does.
 #[test]
 fn four_thousand_and_ninety_six_notes(rt: HostRuntime) {
-    let mut words = EIGHT_GROUNDS;
+    let mut words = eight_grounds();
     let mut memory = Memory::<64, 256, 1, 192, 4100>::blank();
     let mut register = memory.register(Sparse::new(&mut words), Near);
     for transaction in 1..65_u32 {

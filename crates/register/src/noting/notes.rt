@@ -15,7 +15,7 @@ use lines::row::Row;
 // At most one note for each read or write line.
 const MOST_NOTES: usize = READS + WRITES;
 
-// The notes that a call will write. They are gathered once, before it is known whether there is room for them.
+// The notes that a call would write. They are gathered once, before it is known whether there is room for them.
 pub(crate) type NewNotes = Gathered<Note, MOST_NOTES>;
 
 // The note on how two transactions that met at a key are ordered.

@@ -4,7 +4,6 @@ ghost use Rattle.register.specs.Calls.{prewrite};
 ghost use Rattle.register.specs.Registers.{model, Keeps};
 
 use crate::register::Register;
-use crate::replacing::replace;
 use lines::access::{AccessKey, WriteLine};
 use policy::policy::Policy;
 use store::store::Store;
@@ -27,8 +26,9 @@ impl<'a, S: Store, P: Policy> Register<'a, S, P> {
             key,
             value,
         };
-        if self.writes.find(access).is_some() {
-            replace(&mut self.writes, access, line);
+        if let Some(place) = self.writes.search(access) {
+            // The place is one of the book's, so the line is set.
+            self.writes.set(place, line);
             return Ok(());
         }
         let additions = self.additions_of_prewrite(access, row);

@@ -20,7 +20,7 @@ fn other_party(note: &Note, transaction: u32) -> u32
 }
 
 // What follows from a note for the transaction at the ground, with the place of the other party's row; nothing where that party
-// has no row. From a note of another ground, or of two others, nothing follows either, and no row is searched for.
+// has no row, or an Aborted one. From a note of another ground, or of two others, nothing follows either, and no row is searched for.
 pub fn located_effect(rows: &RowBook, own: RowKey, note: &Note) -> Option<(usize, Effect)>
     ensures { Located (held rows.now.book) own.transaction own.ground note.now result }
 {

@@ -1,6 +1,6 @@
 -- A transaction that is decided.
 --   Closed t m            t is decided
---   not_open              no call asks for it to be open then
+--   not_open              it does not pass the check that it is open
 --   closing               a decision closes it
 --   settled_closed        whoever is settled was decided
 --   same_closed           it stays closed while the transaction lines stay

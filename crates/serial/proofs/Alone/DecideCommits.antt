@@ -1,6 +1,7 @@
 -- A decision of a transaction that makes the only calls commits, if it is accepted.
 --   decide_commits    a decide that is accepted commits
-use Rattle.std.proofs.Common.{◌≡◌, ℕ, ◌≤◌, Bool, true, false, cond, eqb, List, [], ◌∷◌, map, ℤ, pos, negsuc, ◌≤ℤ◌, Some, None, Ok, fold, filter, sym, refl, ap, subst, ⊎_elim, arith}
+use Rattle.std.proofs.Common.{◌≡◌, ℕ, ◌≤◌, Bool, true, false, cond, eqb, List, [], ◌∷◌, map, ℤ, pos, negsuc, ◌≤ℤ◌, Some, None, Ok, fold, filter, sym, refl}
+use Rattle.std.proofs.Common.{ap, subst, ⊎_elim, arith}
 use lib.Signed.{lt_z}
 use Rattle.std.proofs.lemmas.Int.{ints, clamps}
 use Rattle.std.proofs.lemmas.Bool.{eqb-true, le-leb, false≢true}

@@ -1,7 +1,10 @@
 -- A validation that no note concerns: it looks at the transaction's own reads and writes, and at nothing else.
+--   Unnamed t n                           the note n names another two
 --   no_ceilings, no_befores, no_afters    nothing bounds it from above, and no row stands beside it
---   low_least, low_most                   the lower bound that is left, where every stamp looked at is below TOP
-use Rattle.std.proofs.Common.{◌≡◌, ℕ, ◌<◌, Bool, true, false, cond, ◌&&◌, eqb, List, [], ◌∷◌, map, ℤ, pos, ◌≤ℤ◌, ◌<ℤ◌, Some, None, filter, Option, sym, refl, ap, ◌∙◌, subst, arith}
+--   floors_below, raised_most             what it has to lie above is below TOP, so its lower bound is a stamp
+--   any_none                              no line passes a test that each line fails
+use Rattle.std.proofs.Common.{◌≡◌, ℕ, ◌<◌, Bool, true, false, cond, ◌&&◌, eqb, List, [], ◌∷◌, map, ℤ, pos, ◌≤ℤ◌, ◌<ℤ◌, Some, None, filter, Option, sym, refl}
+use Rattle.std.proofs.Common.{ap, ◌∙◌, subst, arith}
 use Rattle.std.proofs.ByRecursion.{All-append}
 use Rattle.std.proofs.lemmas.Int.{ints, clamps}
 use Rattle.std.proofs.lemmas.Bool.{and_left, and_right, and_parts, eqb-true, or_from}

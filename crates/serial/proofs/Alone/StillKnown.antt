@@ -68,7 +68,8 @@ numbers_kept n t d (x ∷ xs) a = go (eqb x.number t) refl a (λ b. numbers_kept
     go : (b : Bool) → eqb x.number t ≡ b
         → AllByRecursion (λ y. y.number ≤ n)
         (cond b (record { number = t; decision = Some d } ∷ xs) (x ∷ replaced eqb (λ y. y.number) t (record { number = t; decision = Some d }) xs))
-        → (AllByRecursion (λ y. y.number ≤ n) (replaced eqb (λ y. y.number) t (record { number = t; decision = Some d }) xs) → AllByRecursion (λ y. y.number ≤ n) xs)
+        → (AllByRecursion (λ y. y.number ≤ n) (replaced eqb (λ y. y.number) t (record { number = t; decision = Some d }) xs)
+        → AllByRecursion (λ y. y.number ≤ n) xs)
         → AllByRecursion (λ y. y.number ≤ n) (x ∷ xs)
     go true s h later = (subst (λ u. u ≤ n) (sym (eqb-true _ _ s)) h.0, h.1)
     go false s h later = (h.0, later h.1)

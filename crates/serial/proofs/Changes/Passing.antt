@@ -1,4 +1,7 @@
 -- A validation that passes keeps the invariant, if its range lies where reads, writes and notes say.
+--   Fits      the range lies where they say
+--   cell_there  a key that is prewritten has a cell
+--   passes    the invariant is kept
 use Rattle.std.proofs.Common.{◌≡◌, ℕ, Bool, false, eqb, ◌⊎◌, ℤ, pos, ◌≤ℤ◌, ◌<ℤ◌, Some, None, Option, sym, refl, subst, inl, inr, arith}
 use Rattle.std.proofs.lemmas.Int.{ints}
 use Rattle.std.proofs.lemmas.Bool.{false≢true}

@@ -1,4 +1,7 @@
 -- A settlement of a committed transaction keeps the invariant: its range becomes its stamp, and its cells get what it read and wrote.
+--   ValueFrom   the value of a cell is the one it had, or what the settled transaction put there
+--   Settles     what a settlement changes
+--   settles     the invariant is kept
 use Rattle.std.proofs.Common.{◌≡◌, ℕ, true, false, ◌&&◌, eqb, ◌⊎◌, ℤ, pos, ◌≤ℤ◌, Some, None, Option, sym, refl, ◌∙◌, subst, inl, inr, arith}
 use Rattle.std.proofs.lemmas.Int.{ints}
 use Rattle.std.proofs.lemmas.Bool.{false≢true}

@@ -1,4 +1,9 @@
 -- What stands between two transactions lasts while notes stay and a cell's stamps do not sink.
+--   Grown, More            a cell whose stamps did not sink; notes, and maybe more
+--   noted_more, tied_more  a note that stands still does; tied_turned: it ties two writers either way round
+--   ordered_grown          a reader and a writer stand to each other as they did
+--   distanced_grown        so do two writers; distanced_turned: either way round
+--   reader_grown, writer_grown   and so do one reader and one writer to the cell
 use Rattle.std.proofs.Common.{◌≡◌, ℕ, ◌≤◌, ◌⊎◌, List, ℤ, Some, None, Option, inl, inr, ⊎_elim, arith}
 use Rattle.std.proofs.lemmas.Int.{ints}
 use Rattle.store.specs.declared.cell.Cell.{Cell}
@@ -78,7 +83,7 @@ module _ (N M : Type 0) (s : N → M) (c d : Option Cell) (g : Grown c d) where
   distanced_grown (Past b l u) Gone o = tt
   distanced_grown Gone f o = tt
 
--- Two writers stand to each other on_either way round.
+-- Two writers stand to each other either way round.
 pub distanced_turned : (N M : Type 0) → (N → M) → (c : Option Cell) (e f : Fate) → Distanced N c e f → Distanced M c f e
 distanced_turned N M s c Away Away o = tt
 distanced_turned N M s c Away Running o = tt

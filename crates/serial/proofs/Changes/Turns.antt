@@ -1,4 +1,4 @@
--- The turns that a fate takes, each of which keeps the invariant: nothing, a first read or prewrite at a ground, and an end without a stamp.
+-- The turns that a fate takes, each of which keeps the invariant: a first read or prewrite at a ground, and an end without a stamp.
 --   touched    a read or prewrite at the ground was accepted
 --   gone       the transaction is gone there
 use Rattle.std.proofs.Common.{◌≡◌, ℕ, ℤ, pos, Some, Option, sym, refl, ◌∙◌, subst}

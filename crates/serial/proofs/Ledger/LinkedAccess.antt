@@ -2,6 +2,7 @@
 --   linked_read        they do after a read
 --   linked_prewrite    and after a prewrite
 --   After, refused     what is to hold after a call; it holds after a call that is refused
+--   read_rows, write_rows   a read or write line has a row at its ground
 use Rattle.std.proofs.Common.{◌≡◌, ℕ, ◌∷◌, ℤ, Some, None, Ok, Option, Result, refl, ap, ◌∙◌, Err}
 use Rattle.std.specs.Option.{option_map}
 use Rattle.wire.proofs.Clash.{clash}

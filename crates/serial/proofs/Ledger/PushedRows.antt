@@ -1,6 +1,7 @@
 -- Rows that make way for a validation show the fates they showed.
 --   pushed_fates    what is said of the fates goes by such rows, if it went by them before
-use Rattle.std.proofs.Common.{◌≡◌, ℕ, Bool, true, false, cond, ◌&&◌, eqb, List, [], ◌∷◌, map, ℤ, Some, None, Option, sym, refl, ap, ◌∙◌, subst, option_and_then, arith}
+use Rattle.std.proofs.Common.{◌≡◌, ℕ, Bool, true, false, cond, ◌&&◌, eqb, List, [], ◌∷◌, map, ℤ, Some, None, Option, sym, refl, ap, ◌∙◌, subst}
+use Rattle.std.proofs.Common.{option_and_then, arith}
 use Rattle.std.proofs.lemmas.Bool.{and_left, and_right, and_parts, eqb-true, or_from}
 use Rattle.std.specs.Option.{option_map}
 use Rattle.wire.specs.Keys.{ground_of}

@@ -1,4 +1,8 @@
 -- What a fate shows of the row that it is linked to, and what the ledger shows of a line.
+--   live_row, past_row    a live fate, or one that is past, has a row, in that state and with those bounds
+--   running_shown         a row that is Running has a fate that is
+--   free_shown            no row, or one that is Running: a fate that is away or Running
+--   line_there            what the ledger shows of a line that is there
 use Rattle.std.proofs.Common.{◌≡◌, Bool, true, ◌⊎◌, ℤ, Some, None, Ok, Option, refl, ap, inl, inr}
 use Rattle.std.specs.Option.{option_map}
 use Rattle.wire.proofs.Clash.{clash}

@@ -1,11 +1,9 @@
 -- An entry of the ledger that says nothing new.
 --   Silent h e        with the entry e the history h says what it said without
 --   refused_silent    that of a refused call does not
---   silent_linked, silent_sound    what held of the books and the view holds still
-use Rattle.std.proofs.Common.{◌≡◌, ℕ, Bool, true, false, cond, ◌&&◌, eqb, ◌∷◌, ℤ, Option, sym, refl, ap, ◌∙◌, subst, ap₂, Err}
-use mathlib.Core.Path.{fun_ext}
+--   silent_linked     what held of the books holds still
+use Rattle.std.proofs.Common.{◌≡◌, ℕ, Bool, true, false, cond, ◌&&◌, eqb, ◌∷◌, refl, ◌∙◌, Err}
 use Rattle.std.proofs.lemmas.Bool.{and_right}
-use Rattle.store.specs.Stores.{Cells}
 use Rattle.wire.specs.Keys.{ground_of}
 use Rattle.wire.specs.declared.refusal.Refusal.{Refusal}
 use Rattle.register.specs.Model.{Model}
@@ -13,9 +11,7 @@ use Rattle.register.specs.declared.call.Call.{Call}
 use Rattle.register.specs.declared.call.Call.TheVariants as call
 use Rattle.register.specs.Calls.{Response}
 use Rattle.serial.specs.Ledger.{History, prewritten_in, last_prewritten}
-use Rattle.serial.proofs.Ledger.Fates.{Fate, seen_in, stamp_from, fate_in, fate, seen, stamp_of}
-use Rattle.serial.proofs.Steps.Holding.{view}
-use Rattle.serial.proofs.Changes.Invariant.{Sound}
+use Rattle.serial.proofs.Ledger.Fates.{seen_in, stamp_from, fate_in, fate, seen, stamp_of}
 use Rattle.serial.proofs.Ledger.Linked.{Linked}
 use Rattle.serial.proofs.Ledger.Untouched.{unseen}
 
@@ -43,16 +39,6 @@ silent_linked m h e s linked = record {
   writes = λ t k. s.puts t k ∙ linked.writes t k;
   stamps = λ t. s.stamps t ∙ linked.stamps t;
 }
-
--- The invariant still holds.
-pub silent_sound : (first : Cells) (m : Model) (h : History) (e : Call × Response) → Silent h e → Sound first (view h m)
-    → Sound first (view (e ∷ h) m)
-silent_sound first m h e s =
-    subst (Sound first) (sym
-    (ap₂ (λ (f : ℕ → ℕ → Fate) (p : ℕ → ℕ → Option ℤ). record { fates = f; seen = seen (e ∷ h); put = p; cells = m.cells; notes = m.notes })
-    (fun_ext (λ t. fun_ext (s.fates t))) (fun_ext (λ t. fun_ext (s.puts t)))
-    ∙ ap (λ q. record { fates = fate h; seen = q; put = last_prewritten h; cells = m.cells; notes = m.notes })
-    (fun_ext (λ t. fun_ext (s.sights t)))))
 
 -- A refused call says nothing new.
 pub refused_silent : (h : History) (c : Call) (e : Refusal) → Silent h (c, Err e)

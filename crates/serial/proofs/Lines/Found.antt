@@ -1,4 +1,8 @@
 -- The first line of a key, after a list grows, is mapped, or has a line replaced.
+--   or_else                 the first of two that is there
+--   find_append, find_map   after a list grows, or is mapped
+--   find_replaced, find_other   the line that was replaced, and another
+--   find_all, all_replaced  what holds of all lines holds of the one found, and of all once one is replaced
 use Rattle.std.proofs.Common.{◌≡◌, Bool, true, false, cond, List, [], ◌∷◌, ◌++◌, map, Some, None, Option, refl, ap}
 use Rattle.std.specs.Option.{option_map}
 use Rattle.std.specs.List.{AllByRecursion}

@@ -1,4 +1,8 @@
 -- Rows by their transaction and ground.
+--   key, found_key        the key of a row; the row that is found has it
+--   same_or_not           two keys are the same, or not
+--   own_moved, other_moved   the row that was moved, and another
+--   pushed_rows, added_row   after rows make way, and after one is added
 use Rattle.std.proofs.Common.{◌≡◌, ℕ, Bool, true, false, cond, ◌&&◌, eqb, ◌⊎◌, List, ◌++◌, map, ℤ, Some, None, Option, sym, refl, ap, ◌∙◌, inl, inr, ⊎_elim}
 use Rattle.wire.proofs.Clash.{clash}
 use Rattle.std.proofs.lemmas.Bool.{and_left, and_right, and_parts, cases_eq, ne_eqb, eqb-true}

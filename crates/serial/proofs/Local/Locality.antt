@@ -1,4 +1,9 @@
 -- A validation depends on its ground alone: each thing that it looks at is the same in two registers that agree there.
+--   row_same                       the row of a transaction there
+--   floors_same, ceilings_same     what its range lies above and below
+--   befores_same, afters_same      what a policy is shown
+--   pushed_same                    how a row makes way
+--   other_row, row_local           a row of another ground is no row there, so those of the ground are enough
 use Rattle.std.proofs.Common.{◌≡◌, ℕ, Bool, true, false, cond, ◌&&◌, eqb, List, [], ◌++◌, map, ℤ, None, filter, Option, sym, refl, ap, ◌∙◌}
 use mathlib.Core.Path.{fun_ext}
 use Rattle.std.proofs.lemmas.Bool.{and_left, and_right, cond-false, eqb-true}

@@ -8,7 +8,7 @@ use Rattle.std.proofs.lemmas.Bool.{and_from, eq-eqb}
 use Rattle.std.specs.List.{AllByRecursion}
 use Rattle.serial.specs.Ledger.{History, Commit, reads_of, last_prewritten}
 use Rattle.serial.specs.Arrangements.{Values, written_over, after_one, after_all, same_value, finds, all_found, told, earlier}
-use Rattle.serial.proofs.Order.Arrangement.{Sorted, earlier_not}
+use Rattle.serial.proofs.Ledger.InOrder.{Sorted, earlier_not}
 use Rattle.serial.proofs.Lines.Member.{In, in_all}
 
 -- The last writer of k among those of some commits that pass a test: nobody, and o is there; or u, which wrote o.

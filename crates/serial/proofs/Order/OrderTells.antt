@@ -8,7 +8,7 @@ use Rattle.std.proofs.lemmas.Bool.{cases_Bool}
 use Rattle.std.specs.List.{AllByRecursion}
 use Rattle.serial.specs.Ledger.{History, Commit, commits, reads_of, last_prewritten}
 use Rattle.serial.specs.Arrangements.{Values, after_all, told, earlier, in_order, serial_order}
-use Rattle.serial.proofs.Order.Arrangement.{Once, once_same, stamp_earlier, earlier_most, earlier_not, in_order_sorted, in_order_in, in_in_order}
+use Rattle.serial.proofs.Ledger.InOrder.{Once, once_same, stamp_earlier, earlier_most, earlier_not, in_order_sorted, in_order_in, in_in_order}
 use Rattle.serial.proofs.Lines.Member.{In}
 use Rattle.serial.proofs.Order.LastWriter.{Last, nobody, one, last_ends, last_tells}
 

@@ -43,7 +43,7 @@ none_there None n = refl
 none_there (Some x) n = absurd (n x refl)
 
 module _ (cells : Cells) (h : History) (m : Model) (H : Holds cells h m) where
-  -- A commit that writer_past k, where nothing is owed.
+  -- A commit that wrote k, where nothing is owed.
   module _ (d : Commit) (j : In d (commits h)) (k : ℕ) (y : ℤ) (put : last_prewritten h d.number k ≡ Some y)
       (n : owed h (ground_of k) ≡ false) where
     -- Its range.
@@ -70,7 +70,7 @@ module _ (cells : Cells) (h : History) (m : Model) (H : Holds cells h m) where
   final : (k : ℕ) → owed h (ground_of k) ≡ false → Final h (values cells) k (values m.cells k)
   final k n = go (cells k) refl (m.cells k) refl (H.sound.cell k)
     where
-      -- Nobody writer_past above a cell that is as it was.
+      -- Nobody wrote above a cell that is as it was.
       unwritten : (f c : Cell) → cells k ≡ Some f → m.cells k ≡ Some c → f.write.number ≡ c.write.number
           → (d : Commit) → In d (commits h) → (y : ℤ) → last_prewritten h d.number k ≡ Some y → ⊥
       unwritten f c e s w d j y put =
@@ -93,7 +93,7 @@ module _ (cells : Cells) (h : History) (m : Model) (H : Holds cells h m) where
           (λ d j o y put.
           under_settled cells h m H d j k y put u c.write.number c.value o b p (under_cell d j k y put n c s))
 
-      -- Nobody writer_past where there is no cell.
+      -- Nobody wrote where there is no cell.
       never : (d : Commit) → cells k ≡ None → (y : ℤ) → last_prewritten h d.number k ≡ Some y → ⊥
       never d e y put =
           let f = H.sound.has d.number k y put in

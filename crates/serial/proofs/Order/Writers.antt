@@ -1,8 +1,8 @@
--- How a commit that writer_past a key stands there: it is past at the key's ground, above the first cell, and apart from settled writers.
+-- How a commit that wrote a key stands there: it is past at the key's ground, above the first cell, and apart from settled writers.
 --   Passed             a transaction is past at a ground, with a stamp in its range
 --   past_of            whoever committed is past wherever it is not away
 --   settled_commit     a settled transaction committed at the stamp that is its range
---   writer_past, as_writer   a commit that writer_past a key is past there; and what holds of it as a writer
+--   writer_past, as_writer   a commit that wrote a key is past there; and what holds of it as a writer
 --   above_first        it is above the stamp of the first cell
 --   under_settled      it is below a settled writer, if it is not above that writer's stamp
 use Rattle.std.proofs.Common.{◌≡◌, ℕ, ◌<◌, Bool, true, false, eqb, ◌⊎◌, ℤ, pos, ◌≤ℤ◌, ◌<ℤ◌, Some, refl, ap, ◌∙◌, subst, inl, inr, arith}
@@ -45,7 +45,7 @@ module _ (cells : Cells) (h : History) (m : Model) (H : Holds cells h m) where
       let i : s.0 ≡ w = cc in
       H.stamped.found t w (s.1 ∙ ap Some i)
 
-  -- A commit that writer_past k.
+  -- A commit that wrote k.
   module _ (d : Commit) (j : In d (commits h)) (k : ℕ) (y : ℤ) (put : last_prewritten h d.number k ≡ Some y) where
     -- It is past there.
     pub writer_past : Passed h d.number (ground_of k) d.stamp

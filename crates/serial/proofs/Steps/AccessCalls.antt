@@ -20,9 +20,8 @@ use Rattle.serial.proofs.Steps.PrewriteSteps.{prewrite_again, prewrite_first}
 use Rattle.serial.proofs.Ledger.Fates.{Running, begun, fate, stamp_of}
 use Rattle.serial.proofs.Steps.Holding.{Stamped, Holds}
 use Rattle.serial.proofs.Outcomes.Accesses.{read_cases, prewrite_cases}
-use Rattle.serial.proofs.Ledger.Silent.{silent_sound}
 use Rattle.serial.proofs.Steps.StampedSteps.{silent_stamped, turned_stamped}
-use Rattle.serial.proofs.Steps.RefusedCalls.{no_suits, After, refused}
+use Rattle.serial.proofs.Steps.Lasting.{no_suits, After, refused, silent_sound}
 
 module _ (first : Cells) (m : Model) (h : History) (H : Holds first h m) where
   -- An access by an open transaction, whose fate is then Running.

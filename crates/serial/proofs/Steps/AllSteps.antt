@@ -12,7 +12,7 @@ use Rattle.register.specs.declared.call.Call.TheVariants as call
 use Rattle.register.specs.declared.call.Reply.TheVariants as reply
 use Rattle.serial.specs.Days.{Meaning}
 use Rattle.serial.specs.Ledger.{History}
-use Rattle.serial.proofs.Steps.AlikeSteps.{alike_step}
+use Rattle.serial.proofs.Steps.ReadsAgain.{alike_step}
 use Rattle.serial.proofs.Ledger.Fates.{Away, Past, Unsettled}
 use Rattle.serial.proofs.Steps.Holding.{view, Stamped, Holds}
 use Rattle.serial.proofs.Changes.Invariant.{kept_cell, Sound}
@@ -20,7 +20,7 @@ use Rattle.serial.proofs.Ledger.LinkedSteps.{linked_new, linked_step}
 use Rattle.serial.proofs.Outcomes.Transactions.{begin_cases}
 use Rattle.serial.proofs.Alone.Pending.{live_step}
 use Rattle.serial.proofs.Steps.StampedSteps.{silent_stamped}
-use Rattle.serial.proofs.Steps.RefusedCalls.{After, refused}
+use Rattle.serial.proofs.Steps.Lasting.{After, refused}
 use Rattle.serial.proofs.Steps.AccessCalls.{sound_read, sound_prewrite}
 use Rattle.serial.proofs.Steps.EndingCalls.{sound_validate, sound_decide, sound_withdraw, sound_settle}
 use Rattle.serial.proofs.Ledger.Linked.{Linked}

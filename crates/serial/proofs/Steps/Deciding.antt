@@ -1,7 +1,8 @@
 -- What a decision says of each row of its transaction.
 --   committed_within     the stamp of a commitment lies within every row, and no row is Aborted
 --   not_running          where none of a transaction's rows is Running, the one that is found is not
-use Rattle.std.proofs.Common.{◌≡◌, ℕ, min, Bool, true, false, cond, ◌&&◌, eqb, leb, List, map, ℤ, pos, negsuc, ◌≤ℤ◌, Some, None, Ok, Err, Option, Result, refl, ap, ◌∙◌, arith}
+use Rattle.std.proofs.Common.{◌≡◌, ℕ, min, Bool, true, false, cond, ◌&&◌, eqb, leb, List, map, ℤ, pos, negsuc, ◌≤ℤ◌, Some, None, Ok, Err, Option, Result}
+use Rattle.std.proofs.Common.{refl, ap, ◌∙◌, arith}
 use lib.Signed.{lt_z}
 use Rattle.std.proofs.lemmas.Int.{ints}
 use Rattle.std.proofs.ByRecursion.{folded_max_z_bounds, folded_min_z_bounds}

@@ -25,7 +25,7 @@ use Rattle.serial.proofs.Steps.SettleSteps.{suiting, sound_settled}
 use Rattle.serial.proofs.Steps.StampedSteps.{silent_stamped, turned_stamped, settled_stamped, committed_stamped}
 use Rattle.serial.proofs.Steps.ValidateSteps.{fails, passes_with}
 use Rattle.serial.proofs.Steps.AbortOrCommit.{settled_own, settled_others}
-use Rattle.serial.proofs.Steps.RefusedCalls.{no_stamp, no_suits, After, refused}
+use Rattle.serial.proofs.Steps.Lasting.{no_stamp, no_suits, After, refused}
 
 module _ (first : Cells) (P : Chooses) (means : Meaning P) (m : Model) (h : History) (H : Holds first h m) where
   -- Whatever comes of a validation, all of it lasts.

@@ -1,12 +1,14 @@
 -- What holds of a register and its history at every moment of a day that began with the cells given.
---   view h m       what the invariant speaks of
---   Holds first h m
+--   view h m             what the invariant speaks of
+--   Stamped h            who has a stamp: it suits every ground (Suits), and nobody commits twice
+--   AlikeReads h         each accepted read of a key by one transaction was answered alike
+--   Holds first h m      all of that, and that the books say the same
 use Rattle.std.proofs.Common.{◌≡◌, ℕ, true, ℤ, pos, ◌≤ℤ◌, Some}
 use Rattle.std.specs.List.{AllByRecursion}
 use Rattle.store.specs.Stores.{Cells}
 use Rattle.register.specs.Model.{Model}
 use Rattle.serial.specs.Ledger.{History, Commit, commits, reads_of, last_prewritten}
-use Rattle.serial.proofs.Order.Arrangement.{Once}
+use Rattle.serial.proofs.Ledger.InOrder.{Once}
 use Rattle.serial.proofs.Ledger.Fates.{Fate, Away, Running, Past, Gone, fate, seen, stamp_of}
 use Rattle.serial.proofs.Changes.Invariant.{View, Sound}
 use Rattle.serial.proofs.Ledger.Linked.{Linked}

@@ -1,4 +1,6 @@
 -- A settlement keeps the invariant, by what was decided; and what was decided suits every ground.
+--   suiting         what was decided suits every ground
+--   sound_settled   the invariant is kept
 use Rattle.std.proofs.Common.{◌≡◌, ℕ, false, ◌∷◌, pos, ◌≤ℤ◌, Some, None, Ok, Option, sym, refl, ap, ◌∙◌, subst}
 use Rattle.std.proofs.lemmas.Bool.{true≢false}
 use Rattle.store.specs.Stores.{Cells}

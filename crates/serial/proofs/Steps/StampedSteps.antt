@@ -1,5 +1,9 @@
 -- What holds of stamps lasts: only a decision gives one, and it suits every ground.
-use Rattle.std.proofs.Common.{◌≡◌, ℕ, true, false, cond, ◌&&◌, eqb, ◌∷◌, ℤ, pos, Some, None, Option, sym, refl, ap, ◌∙◌, subst, ap₂, inl, inr, ⊎_elim, arith, Ok}
+--   silent_stamped, turned_stamped   it lasts where nothing is said, and where a fate turns that has no stamp
+--   settled_stamped                  where a fate is settled
+--   committed_stamped                and where a decision gives a stamp
+use Rattle.std.proofs.Common.{◌≡◌, ℕ, true, false, cond, ◌&&◌, eqb, ◌∷◌, ℤ, pos, Some, None, Option, sym, refl, ap, ◌∙◌, subst, ap₂, inl, inr, ⊎_elim, arith}
+use Rattle.std.proofs.Common.{Ok}
 use Rattle.std.proofs.lemmas.Int.{ints}
 use Rattle.std.proofs.lemmas.Bool.{cases_eq, eq-eqb, ne_eqb}
 use Rattle.wire.proofs.Clash.{clash}
@@ -9,7 +13,7 @@ use Rattle.register.specs.declared.call.Call.TheVariants as call
 use Rattle.register.specs.Calls.{Response}
 use Rattle.register.specs.declared.call.Reply.TheVariants as reply
 use Rattle.serial.specs.Ledger.{History, commits}
-use Rattle.serial.proofs.Order.Arrangement.{Once}
+use Rattle.serial.proofs.Ledger.InOrder.{Once}
 use Rattle.serial.proofs.Ledger.Fates.{Past, settled_at, fate, stamp_of}
 use Rattle.serial.proofs.Steps.Holding.{Suits, Stamped}
 use Rattle.serial.proofs.Lines.Member.{In, all_each}

@@ -12,5 +12,7 @@ add-requires c =
     let found = c.in-Some.ensures in
     record {
       place = omega (arith, found.0);
-      fits = subst (λ e. IfSome e FitsEffect) found.2 (effect_fits rows c.args.own.transaction c.args.own.ground c.args.note.now (rows_sound rows c.args.rows.now.sound).bounded);
+      fits =
+          subst (λ e. IfSome e FitsEffect) found.2
+          (effect_fits rows c.args.own.transaction c.args.own.ground c.args.note.now (rows_sound rows c.args.rows.now.sound).bounded);
     }

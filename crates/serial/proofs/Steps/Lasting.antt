@@ -1,8 +1,10 @@
 -- What is to hold after a call, and that it holds after a call that is refused.
+--   silent_sound           the invariant lasts where nothing new is said
 --   After                  what is to hold: the invariant, and what holds of stamps
 --   refused                it holds after a call that is refused
 --   no_stamp, no_suits     an open transaction has no stamp; so no stamp has to suit any fate of it
-use Rattle.std.proofs.Common.{◌≡◌, ℕ, ◌∷◌, Some, None, Ok, Result, ◌∙◌, Err}
+use Rattle.std.proofs.Common.{◌≡◌, ℕ, ◌∷◌, ℤ, Option, Some, None, Ok, Result, sym, ap, ◌∙◌, subst, ap₂, Err}
+use mathlib.Core.Path.{fun_ext}
 use Rattle.store.specs.Stores.{Cells}
 use Rattle.wire.proofs.Clash.{clash}
 use Rattle.wire.specs.declared.refusal.Refusal.{Refusal}
@@ -10,14 +12,24 @@ use Rattle.register.specs.Calls.{Response}
 use Rattle.register.specs.Checks.{open_now}
 use Rattle.register.specs.Model.{Model, transaction_of}
 use Rattle.register.specs.declared.call.Call.{Call}
-use Rattle.serial.specs.Ledger.{History, commits}
-use Rattle.serial.proofs.Ledger.Fates.{Fate, stamp_of}
+use Rattle.serial.specs.Ledger.{History, commits, last_prewritten}
+use Rattle.serial.proofs.Ledger.Fates.{Fate, fate, seen, stamp_of}
 use Rattle.serial.proofs.Steps.Holding.{view, Suits, Stamped, Holds}
 use Rattle.serial.proofs.Changes.Invariant.{Sound}
 use Rattle.serial.proofs.Ledger.LinkedLines.{open_stamp}
 use Rattle.serial.proofs.Outcomes.Checks.{Out}
-use Rattle.serial.proofs.Ledger.Silent.{refused_silent, silent_sound}
+use Rattle.serial.proofs.Ledger.Silent.{Silent, refused_silent}
 use Rattle.serial.proofs.Steps.StampedSteps.{silent_stamped}
+
+-- The invariant lasts where nothing new is said.
+pub silent_sound : (first : Cells) (m : Model) (h : History) (e : Call × Response) → Silent h e → Sound first (view h m)
+    → Sound first (view (e ∷ h) m)
+silent_sound first m h e s =
+    subst (Sound first) (sym
+    (ap₂ (λ (f : ℕ → ℕ → Fate) (p : ℕ → ℕ → Option ℤ). record { fates = f; seen = seen (e ∷ h); put = p; cells = m.cells; notes = m.notes })
+    (fun_ext (λ t. fun_ext (s.fates t))) (fun_ext (λ t. fun_ext (s.puts t)))
+    ∙ ap (λ q. record { fates = fate h; seen = q; put = last_prewritten h; cells = m.cells; notes = m.notes })
+    (fun_ext (λ t. fun_ext (s.sights t)))))
 
 module _ (first : Cells) (h : History) where
   -- The invariant after a call, and what holds of stamps.

@@ -1,4 +1,5 @@
 -- Every accepted read of a key by one transaction is answered alike.
+--   alike_step   what was answered alike before a call is so after it
 use Rattle.std.proofs.Common.{◌≡◌, ℕ, Bool, true, false, cond, ◌&&◌, eqb, List, [], ◌∷◌, map, ℤ, Some, refl, ap, ◌∙◌, subst, Ok, Err}
 use Rattle.std.proofs.ByRecursion.{All-append, All-weaker}
 use Rattle.std.proofs.lemmas.Bool.{eqb-true}
