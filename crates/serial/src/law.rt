@@ -26,7 +26,7 @@ pub fn days_are_serial()
     ensures { DaysAreSerial }
 {}
 
-// A transaction that meets nobody commits while stamps last.
+// A transaction that has the register to itself commits while stamps last.
 pub fn alone_commits()
     ensures { Alone }
 {}

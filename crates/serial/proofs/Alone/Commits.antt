@@ -1,4 +1,4 @@
--- A transaction that meets nobody commits.
+-- A transaction that has the register to itself commits.
 --   alone_in    in a day of the calls before its begin, its own, and those after its decide
 --   alone       the promise
 use Rattle.std.proofs.Common.{◌≡◌, ℕ, List, [], ◌∷◌, ◌++◌, refl}
