@@ -6,16 +6,17 @@ use Rattle.std.proofs.lemmas.Iterator.Adapters.{position_from-zero}
 use Rattle.std.proofs.lemmas.Grind.{common_steps}
 use Rattle.std.proofs.lemmas.List.Folds.{find_at}
 use Rattle.std.proofs.lemmas.Option.{slice_get_past}
-use Rattle.book.specs.Books.{nth, place, line_with}
+use Rattle.std.specs.List.{slice_get}
+use Rattle.book.specs.Books.{line_with, position_of}
 
 -- The line at a place, where there is one.
 abbrev pub line_at : {L : Type 0} → List L → Option ℕ → Option L
 line_at xs None = None
-line_at xs (Some i) = nth xs i
+line_at xs (Some i) = slice_get xs i
 
 -- The line at the place found is the first with the key.
 pub line_at_place : {L K : Type 0} (same : K → K → Bool) (f : L → K) (k : K) (xs : List L)
-    → line_at xs (place same f k xs) ≡ line_with same f k xs
+    → line_at xs (position_of same f k xs) ≡ line_with same f k xs
 line_at_place same f k xs =
     let zero = position_from-zero (λ x. same (f x) k) xs in
     let found = find_at (λ x. same (f x) k) xs in

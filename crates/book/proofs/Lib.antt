@@ -1,2 +1,4 @@
 pub mod Books
 pub mod Largest
+pub mod Last
+pub mod Rising

@@ -4,9 +4,8 @@ mod change;
 mod largest;
 mod search;
 
-// Lines of one kind in the order written, in memory that the caller lends. A book has room for as many as its limit and that
-// memory allow, and its type says that its count is within both.
-// The count stands beside a lent slice, since a book may allocate nothing.
+/// Lines of one kind in the order written, in memory that the caller lends. A book has room for as many as its limit and that
+/// memory allow, and its type says that its count is within both.
 #[derive(Drop)]
 pub struct Book<'a, L> {
     lines: &'a mut [L],
@@ -17,12 +16,13 @@ pub struct Book<'a, L> {
 }
 
 impl<'a, L: Copy> Book<'a, L> {
-    ghost use Rattle.std.specs.Prelude.{◌≡◌, ◌+◌, ◌≤◌, min, [], length};
-    ghost use Rattle.book.specs.Books.{memory, room, held, nth};
+    ghost use Rattle.std.specs.Prelude.{◌≡◌, ◌↔◌, ◌+◌, ◌≤◌, min, [], IsTrue, length};
+    ghost use Rattle.std.specs.List.{slice_get};
+    ghost use Rattle.book.specs.Books.{memory, room, lines_of};
 
-    // An empty book. The memory stays as it is.
+    /// An empty book. The memory stays as it is.
     pub fn new(lines: &'a mut [L], limit: usize) -> Book<'a, L>
-        ensures empty { held result ≡ [] }
+        ensures empty { lines_of result ≡ [] }
         ensures room { room result ≡ min limit (length lines.old) }
         ensures limit { result.limit ≡ limit }
         ensures memory { memory result ≡ lines.old }
@@ -42,31 +42,38 @@ impl<'a, L: Copy> Book<'a, L> {
         self.limit.min(self.lines.len())
     }
 
-    // How many lines the book holds.
+    /// How many lines the book holds.
     pub fn len(&self) -> usize
-        ensures value { result ≡ length (held self.now) }
+        ensures value { result ≡ length (lines_of self.now) }
         ensures bound { result ≤ room self.now }
     {
         self.count
     }
 
-    // How many lines can still be added.
+    /// Whether the book holds no line.
+    pub fn is_empty(&self) -> bool
+        ensures { IsTrue result ↔ (length (lines_of self.now) ≡ 0) }
+    {
+        self.lines().is_empty()
+    }
+
+    /// How many lines can still be added.
     pub fn free(&self) -> usize
-        ensures { result + length (held self.now) ≡ room self.now }
+        ensures { result + length (lines_of self.now) ≡ room self.now }
     {
         self.room() - self.len()
     }
 
-    // The lines that the book holds.
+    /// The lines that the book holds.
     pub fn lines(&self) -> &[L]
-        ensures { result.now ≡ held self.now }
+        ensures { result.now ≡ lines_of self.now }
     {
         &self.lines[..self.len()]
     }
 
-    // The line number i, counted from 0; nothing past the end.
+    /// The line number i, counted from 0; nothing past the end.
     pub fn get(&self, i: usize) -> Option<L>
-        ensures { result ≡ nth (held self.now) i }
+        ensures { result ≡ slice_get (lines_of self.now) i }
     {
         self.lines().get(i).copied()
     }

@@ -1,5 +1,8 @@
-// Books: lines of one kind, in the order written, in memory that the caller lends.
+//! Books: lines of one kind, in the order written, in memory that the caller lends.
 #![tactic(auto)]
 
-pub mod book;
-pub mod line;
+mod book;
+mod line;
+
+pub use book::Book;
+pub use line::Line;

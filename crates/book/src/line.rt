@@ -1,7 +1,7 @@
 ghost use Rattle.std.specs.Prelude.{◌≡◌};
 
-// A line of a book, which goes by its key. A search goes by whether keys are equal; the largest key by the order of their type,
-// which `Ord` says is total.
+/// A line of a book, which goes by its key. A search goes by whether keys are equal; the largest key by the order of their type,
+/// which `Ord` says is total.
 pub trait Line: Copy {
     type Key: Ord + Copy;
 

@@ -13,25 +13,25 @@ use Rattle.lines.specs.declared.note.Side.TheVariants.{Earlier, Later, Apart}
 use Rattle.lines.specs.declared.row.Row.{Row}
 use Rattle.lines.specs.declared.row.State.TheVariants.{Running, Aborted}
 use Rattle.lines.specs.Notes.{side_of, effect_of}
-use Rattle.lines.specs.Rows.{past}
+use Rattle.lines.specs.Rows.{is_past}
 
 module _ (n : Note) (t : ℕ) (r : Row) where
   pub ignored : r.state ≡ Aborted → effect_of n t r ≡ None
   ignored e = grind arith
 
-  pub earlier_past : side_of n t ≡ Some Earlier → past r.state ≡ true → effect_of n t r ≡ Some (LowerBelow r.lower)
+  pub earlier_past : side_of n t ≡ Some Earlier → is_past r.state ≡ true → effect_of n t r ≡ Some (LowerBelow r.lower)
   earlier_past e p = grind arith
 
   pub earlier_running : side_of n t ≡ Some Earlier → r.state ≡ Running → effect_of n t r ≡ Some JoinAfter
   earlier_running e p = grind arith
 
-  pub later_past : side_of n t ≡ Some Later → past r.state ≡ true → effect_of n t r ≡ Some (RaiseAbove r.upper)
+  pub later_past : side_of n t ≡ Some Later → is_past r.state ≡ true → effect_of n t r ≡ Some (RaiseAbove r.upper)
   later_past e p = grind arith
 
   pub later_running : side_of n t ≡ Some Later → r.state ≡ Running → effect_of n t r ≡ Some JoinBefore
   later_running e p = grind arith
 
-  pub apart_past : side_of n t ≡ Some Apart → past r.state ≡ true → effect_of n t r ≡ Some (RaiseAbove r.upper)
+  pub apart_past : side_of n t ≡ Some Apart → is_past r.state ≡ true → effect_of n t r ≡ Some (RaiseAbove r.upper)
   apart_past e p = grind arith
 
   pub apart_running : side_of n t ≡ Some Apart → r.state ≡ Running → effect_of n t r ≡ Some JoinAfter
@@ -41,11 +41,13 @@ module _ (n : Note) (t : ℕ) (r : Row) where
   uninvolved f s = grind arith
 
 module _ (n : Note) (t : ℕ) where
-  pub side_first : n.order ≡ order.Before → eqb n.first t ≡ true → side_of n t ≡ Some Earlier
-  side_first o f = grind arith
+  pub side_first : n.order ≡ order.Before → eqb n.first n.second ≡ false → eqb n.first t ≡ true → side_of n t ≡ Some Earlier
+  side_first o d f = grind arith
 
-  pub side_second : n.order ≡ order.Before → eqb n.first t ≡ false → eqb n.second t ≡ true → side_of n t ≡ Some Later
-  side_second o f s = grind arith
+  pub side_second : n.order ≡ order.Before → eqb n.first n.second ≡ false → eqb n.first t ≡ false → eqb n.second t ≡ true
+      → side_of n t ≡ Some Later
+  side_second o d f s = grind arith
 
-  pub side_apart : n.order ≡ order.Apart → (eqb n.first t || eqb n.second t) ≡ true → side_of n t ≡ Some Apart
-  side_apart o e = grind arith
+  pub side_apart : n.order ≡ order.Apart → eqb n.first n.second ≡ false → (eqb n.first t || eqb n.second t) ≡ true
+      → side_of n t ≡ Some Apart
+  side_apart o d e = grind arith

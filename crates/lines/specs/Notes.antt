@@ -19,9 +19,9 @@ abbrev pub side_by : Order → ℕ → ℕ → ℕ → Option Side
 side_by order.Before first second t = cond (first == t) (Some Earlier) (cond (second == t) (Some Later) None)
 side_by order.Apart first second t = cond (first == t || second == t) (Some Apart) None
 
--- What a note says of a transaction.
+-- What a note says of a transaction. A note of a transaction with itself, which no run writes, says nothing.
 abbrev pub side_of : Note → ℕ → Option Side
-side_of n t = side_by n.order n.first n.second t
+side_of n t = cond (n.first == n.second) None (side_by n.order n.first n.second t)
 
 -- The table: the side of the transaction, then the state of the other party's row. An Aborted row is ignored.
 abbrev pub effect_by : Side → State → Row → Option Effect

@@ -1,18 +1,18 @@
 ghost use Rattle.std.specs.Prelude.{◌≡◌};
-ghost use Rattle.wire.specs.Keys.{ground_of};
+ghost use Rattle.base.specs.Keys.{ground_of};
 ghost use Rattle.lines.specs.LineKeys.{row_key_at, read_key, write_key};
 
 use crate::row::RowKey;
-use book::line::Line;
-use wire::place::Place;
-use wire::stamp::Stamp;
+use base::{Place, Stamp};
+use book::Line;
 
-// The most read lines, and the most write lines.
+/// The most read lines.
 pub const READS: usize = 512;
 
+/// The most write lines.
 pub const WRITES: usize = 512;
 
-// What a read or write line goes by: a transaction has one line of each kind for a key.
+/// What a read or write line goes by: a transaction has one line of each kind for a key.
 #[derive(Clone, Copy, PartialEq, Eq, PartialOrd, Ord, Debug)]
 pub struct AccessKey {
     pub transaction: u32,
@@ -20,7 +20,7 @@ pub struct AccessKey {
 }
 
 impl AccessKey {
-    // The key of the transaction's row at the key's ground.
+    /// The key of the transaction's row at the key's ground.
     pub fn row_key(self) -> RowKey
         ensures { result ≡ row_key_at self.transaction (ground_of self.key) }
     {
@@ -31,8 +31,7 @@ impl AccessKey {
     }
 }
 
-// A cell that a transaction read: the value and the write stamp that it saw.
-// The parts of its key are fields of their own, since the definitions of the calls name a line's key and its transaction each alone.
+/// A cell that a transaction read: the value and the write stamp that it saw.
 #[derive(Clone, Copy, PartialEq, Eq, Debug)]
 pub struct ReadLine {
     pub transaction: u32,
@@ -41,8 +40,7 @@ pub struct ReadLine {
     pub seen: Stamp,
 }
 
-// A cell that a transaction will write, with the value.
-// One generic line for both would add a parameter for the one field in which they differ.
+/// A cell that a transaction will write, with the value.
 #[derive(Clone, Copy, PartialEq, Eq, Debug)]
 pub struct WriteLine {
     pub transaction: u32,
@@ -50,7 +48,7 @@ pub struct WriteLine {
     pub value: i16,
 }
 
-// A read line goes by its transaction and key.
+/// A read line goes by its transaction and key.
 impl Line for ReadLine {
     type Key = AccessKey;
 
@@ -64,7 +62,7 @@ impl Line for ReadLine {
     }
 }
 
-// The same as of a read line: an impl for all lines with an access key would collide with those of rows and transactions.
+/// A write line too.
 impl Line for WriteLine {
     type Key = AccessKey;
 

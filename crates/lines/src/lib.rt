@@ -1,4 +1,4 @@
-// The lines of the register's five books, how a row moves, what a note means for a validation, and when a soft lock stands.
+//! The lines of the register's five books, how a row moves, what a note means for a validation, and when a soft lock stands.
 #![tactic(auto)]
 
 pub mod access;

@@ -1,13 +1,13 @@
 ghost use Rattle.std.specs.Prelude.{◌≡◌};
-ghost use Rattle.book.specs.Books.{held};
+ghost use Rattle.book.specs.Books.{lines_of};
 ghost use Rattle.lines.specs.Locks.{holds_lock, lock_stands};
 
 use crate::access::AccessKey;
 use crate::row::{Row, State};
-use book::book::Book;
+use book::Book;
 
 impl Row {
-    // Whether the row lets its transaction's reads and writes at its ground stand as soft locks.
+    /// Whether the row lets its transaction's reads and writes at its ground stand as soft locks.
     pub fn holds_lock(&self) -> bool
         ensures { result ≡ holds_lock self.now }
     {
@@ -15,9 +15,9 @@ impl Row {
     }
 }
 
-// Whether a read or write line stands as a soft lock: its transaction's row at the key's ground is Running or Validated.
+/// Whether a read or write line stands as a soft lock: its transaction's row at the key's ground is Running or Validated.
 pub fn lock_stands(rows: &Book<Row>, access: AccessKey) -> bool
-    ensures { result ≡ lock_stands (held rows.now) access.transaction access.key }
+    ensures { result ≡ lock_stands (lines_of rows.now) access.transaction access.key }
 {
     rows.find(access.row_key())
         .is_some_and(|row| row.holds_lock())

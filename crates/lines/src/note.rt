@@ -3,17 +3,17 @@ ghost use Rattle.lines.specs.Notes.{side_of, effect_by, effect_of};
 
 use crate::row::{Row, State};
 
-// The most notes.
+/// The most notes.
 pub const NOTES: usize = 4096;
 
-// How the two transactions of a note are ordered: the first before the second, or apart in either order.
+/// How the two transactions of a note are ordered: the first before the second, or apart in either order.
 #[derive(Clone, Copy, PartialEq, Eq, Debug)]
 pub enum Order {
     Before,
     Apart,
 }
 
-// A constraint on the order of two transactions that met at a key.
+/// A constraint on the order of two transactions that met at a key.
 #[derive(Clone, Copy, PartialEq, Eq, Debug)]
 pub struct Note {
     pub key: u16,
@@ -22,7 +22,7 @@ pub struct Note {
     pub order: Order,
 }
 
-// What a note says of a transaction and the other party.
+/// What a note says of a transaction and the other party.
 #[derive(Clone, Copy, PartialEq, Eq, Debug)]
 pub enum Side {
     Earlier,
@@ -30,8 +30,8 @@ pub enum Side {
     Apart,
 }
 
-// What follows from one note for a transaction that is validated: its upper bound goes below a bound, or its lower bound above one;
-// or the other party's row joins a list of rows to be narrowed.
+/// What follows from one note for a transaction that is validated: its upper bound goes below a bound, or its lower bound above one;
+/// or the other party's row joins a list of rows to be narrowed.
 #[derive(Clone, Copy, PartialEq, Eq, Debug)]
 pub enum Effect {
     LowerBelow(i32),
@@ -41,7 +41,7 @@ pub enum Effect {
 }
 
 impl Side {
-    // What follows for a transaction on this side of a note, given the other party's row; nothing from an Aborted one.
+    /// What follows for a transaction on this side of a note, given the other party's row; nothing from an Aborted one.
     pub fn effect(self, other: &Row) -> Option<Effect>
         ensures { result ≡ effect_by self other.now.state other.now }
     {
@@ -58,11 +58,14 @@ impl Side {
 }
 
 impl Note {
-    // What the note says of a transaction: that it comes earlier than the other party, later, or apart from it. A note of two others
-    // says nothing of it.
+    /// What the note says of a transaction: that it comes earlier than the other party, later, or apart from it. A note of two others
+    /// says nothing of it, nor does one of a transaction with itself.
     pub fn side(&self, transaction: u32) -> Option<Side>
         ensures { result ≡ side_of self.now transaction }
     {
+        if self.first == self.second {
+            return None;
+        }
         match self.order {
             Order::Before if self.first == transaction => Some(Side::Earlier),
             Order::Before if self.second == transaction => Some(Side::Later),
@@ -73,7 +76,7 @@ impl Note {
         }
     }
 
-    // What follows from the note for the transaction that is validated, given the other party's row at the note's ground.
+    /// What follows from the note for the transaction that is validated, given the other party's row at the note's ground.
     pub fn effect(&self, transaction: u32, other: &Row) -> Option<Effect>
         ensures { result ≡ effect_of self.now transaction other.now }
     {

@@ -1,15 +1,14 @@
 ghost use Rattle.std.specs.Prelude.{◌≡◌};
 ghost use Rattle.lines.specs.LineKeys.{row_key};
-ghost use Rattle.lines.specs.Rows.{new_row, moved, Bounded, FitsEvent};
+ghost use Rattle.lines.specs.Rows.{new_row, FitsEvent, moved_row, IsBounded};
 
-use book::line::Line;
-use wire::refusal::Refusal;
-use wire::stamp::{Stamp, TOP};
+use base::{Refusal, Stamp, TOP};
+use book::Line;
 
-// The most row lines.
+/// The most row lines.
 pub const ROWS: usize = 256;
 
-// How far a transaction has come at a ground.
+/// How far a transaction has come at a ground.
 #[derive(Clone, Copy, PartialEq, Eq, Debug)]
 pub enum State {
     Running,
@@ -18,16 +17,15 @@ pub enum State {
     Aborted,
 }
 
-// What a row goes by: a transaction has one row at a ground. It is a type of its own, so that no ground passes for a key.
+/// What a row goes by: a transaction has one row at a ground.
 #[derive(Clone, Copy, PartialEq, Eq, PartialOrd, Ord, Debug)]
 pub struct RowKey {
     pub transaction: u32,
     pub ground: u16,
 }
 
-// What one ground knows of one transaction: its state, and the stamps that still suit it, from `lower` to `upper`, both inside.
-// The bounds' limits are no fact of this type, since it would ask them of everyone who writes a row or an event.
-// The parts of its key are fields of their own, as those of a read line are.
+/// What one ground knows of one transaction: its state, and the stamps that still suit it, from `lower` to `upper`, both inside.
+/// `lower` goes from 0 to TOP + 1, `upper` from -1 to TOP.
 #[derive(Clone, Copy, PartialEq, Eq, Debug)]
 pub struct Row {
     pub transaction: u32,
@@ -37,7 +35,7 @@ pub struct Row {
     pub upper: i32,
 }
 
-// What can come to a row: its validation passes with a range, or fails; it is settled as aborted, or as committed at a stamp.
+/// What can come to a row: its validation passes with a range, or fails; it is settled as aborted, or as committed at a stamp.
 #[derive(Clone, Copy, PartialEq, Eq, Debug)]
 pub enum Event {
     Pass { lower: i32, upper: i32 },
@@ -60,7 +58,7 @@ impl Line for Row {
 }
 
 impl Row {
-    // A row as a transaction's first read or prewrite at a ground writes it: Running, and every stamp suits.
+    /// A row as a transaction's first read or prewrite at a ground writes it: Running, and every stamp suits.
     pub fn new(key: RowKey) -> Row
         ensures { result ≡ new_row key.transaction key.ground }
     {
@@ -73,10 +71,11 @@ impl Row {
         }
     }
 
-    // The row's next state and bounds by its state and the event together; a refused event changes nothing.
+    /// The row's next state and bounds by its state and the event together; an event that does not fit the state is refused
+    /// with 5, 8 or 10 and changes nothing.
     pub fn meet(&mut self, event: Event) -> Result<(), Refusal>
-        ensures value { ◌≡◌ (self.new, result) (moved self.old event) }
-        ensures bounded { Bounded self.old → FitsEvent event → Bounded self.new }
+        ensures value { ◌≡◌ (self.new, result) (moved_row self.old event) }
+        ensures bounded { IsBounded self.old → FitsEvent event → IsBounded self.new }
     {
         match (self.state, event) {
             (State::Running, Event::Pass { lower, upper }) => {

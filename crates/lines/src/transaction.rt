@@ -1,17 +1,20 @@
-use book::line::Line;
-use wire::stamp::Stamp;
+use base::Stamp;
+use book::Line;
 
-// The most transaction lines.
+/// The most transaction lines.
 pub const TRANSACTIONS: usize = 64;
 
-// What is decided of a transaction.
+/// The largest number that a transaction can have; the least is 1.
+pub const LAST_NUMBER: u32 = 4095;
+
+/// What is decided of a transaction.
 #[derive(Clone, Copy, PartialEq, Eq, Debug)]
 pub enum Decision {
     Committed(Stamp),
     Aborted,
 }
 
-// A transaction that was begun, and what was decided of it: nothing while it is open.
+/// A transaction that was begun, and what was decided of it: nothing while it is open.
 #[derive(Clone, Copy, PartialEq, Eq, Debug)]
 pub struct Transaction {
     pub number: u32,

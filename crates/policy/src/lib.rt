@@ -1,6 +1,10 @@
-// Policies: which part of a range of stamps a validation takes for its transaction.
+//! Policies: which part of a range of stamps a validation takes for its transaction.
 #![tactic(auto)]
 
-pub mod near;
-pub mod policy;
-pub mod whole;
+mod near;
+mod policy;
+mod whole;
+
+pub use near::Near;
+pub use policy::Policy;
+pub use whole::Whole;

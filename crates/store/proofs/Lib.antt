@@ -1,7 +1,1 @@
-pub mod Cells
-pub mod Faults
-pub mod FlatPut
-pub mod Lines
-pub mod Naming
-pub mod Puts
-pub mod SparsePut
+pub mod Putting

@@ -1,9 +1,3 @@
-pub mod Faults
-pub mod FlatStores
-pub mod Flats
-pub mod Lines
-pub mod Memory
-pub mod SparseStores
-pub mod Sparses
+pub mod SplitPuts
 pub mod Splits
 pub mod Stores

@@ -1,25 +1,22 @@
 -- A split store.
---   split_cells b m n   grounds below the boundary b have their cells in m, the others in n
---   split_fault b       the fault of a boundary above 8
---   cells_of f g s      the cells of a split store
---   OneSide m n k x r o p   put changed one of the two stores alone
---   Sides f g s t k x r     put changed the store on the key's side alone
-use Rattle.std.specs.Prelude.{◌≡◌, ℕ, Bool, cond, MatchBool, List, ◌++◌, Some, None, Option, Result, nat_le, nat_lt}
-use Rattle.wire.specs.declared.refusal.Refusal.{Refusal}
-use Rattle.wire.specs.Keys.{ground_of}
+--   split_cells b m n          grounds below the boundary b have their cells in m, the others in n
+--   goes_left s k              the key k is the left store's
+--   cells_of f g s             the cells of a split store
+--   OneSide f g s r t          the put was one into one of the two stores
+--   Sides f g s t k x r        that store is the one on the key's side
+--   ChangesOne m n k x r o p   it changed that store and not the other
+--   both_lists f g s           a list that the left store has, and then that of the right one
+--   BothAre f g s              something holds of both stores
+use Rattle.std.specs.Prelude.{◌≡◌, ℕ, Bool, cond, MatchBool, ◌⊎◌, List, ◌++◌, Result, nat_lt}
+use Rattle.base.specs.declared.refusal.Refusal.{Refusal}
+use Rattle.base.specs.Keys.{ground_of}
 use Rattle.store.specs.declared.cell.Cell.{Cell}
-use Rattle.store.specs.declared.fault.Cause.TheVariants.{BoundaryAbove8}
-use Rattle.store.specs.declared.fault.Fault.{Fault}
 use Rattle.store.specs.declared.split.Split.{Split}
 use Rattle.store.specs.Stores.{Cells, Put}
 
 -- Grounds below the boundary are the left store's, the others the right one's; above 8 every ground lies below it.
 abbrev pub split_cells : ℕ → Cells → Cells → Cells
 split_cells b m n k = cond (nat_lt (ground_of k) b) (m k) (n k)
-
--- A boundary lies from 0 to 8.
-abbrev pub split_fault : ℕ → Option Fault
-split_fault b = cond (nat_le b 8) None (Some (record { cause = BoundaryAbove8; line = None }))
 
 -- A key's ground is the left store's.
 abbrev pub goes_left : {L R : Type 0} → Split L R → ℕ → Bool
@@ -29,16 +26,8 @@ goes_left s k = nat_lt (ground_of k) s.boundary
 abbrev pub cells_of : {L R : Type 0} → (L → Cells) → (R → Cells) → Split L R → Cells
 cells_of f g s = split_cells s.boundary (f s.left) (g s.right)
 
--- Both stores' memory is sound.
-abbrev pub both_sound : {L R : Type 0} → (L → Type 0) → (R → Type 0) → Split L R → Type 0
-both_sound f g s = f s.left × g s.right
-
--- The memory that both stores were lent.
-abbrev pub both_lent : {L R : Type 0} → (L → List ℕ) → (R → List ℕ) → Split L R → List ℕ
-both_lent f g s = f s.left ++ g s.right
-
 -- Putting into one of two stores: its cells went from m to n, and the other store, first o and then p, did not change.
-pub record OneSide {S : Type 0} (m n : Cells) (k : ℕ) (x : Cell) (r : Result Unit Refusal) (o p : S) : Type 0 where
+pub record ChangesOne {S : Type 0} (m n : Cells) (k : ℕ) (x : Cell) (r : Result Unit Refusal) (o p : S) : Type 0 where
   pub put : Put m n k x r
   pub other : p ≡ o
 
@@ -46,5 +35,18 @@ pub record OneSide {S : Type 0} (m n : Cells) (k : ℕ) (x : Cell) (r : Result U
 abbrev pub Sides : {L R : Type 0} → (L → Cells) → (R → Cells) → Split L R → Split L R → ℕ → Cell → Result Unit Refusal → Type 0
 Sides f g s t k x r =
     MatchBool (goes_left s k)
-    (OneSide (f s.left) (f t.left) k x r s.right t.right)
-    (OneSide (g s.right) (g t.right) k x r s.left t.left)
+    (ChangesOne (f s.left) (f t.left) k x r s.right t.right)
+    (ChangesOne (g s.right) (g t.right) k x r s.left t.left)
+
+-- A put into a split is one into the left store, or one into the right, and the other store is then as it was.
+abbrev pub OneSide : {L R : Type 0} → (L → Result Unit Refusal → L → Type 0) → (R → Result Unit Refusal → R → Type 0)
+    → Split L R → Result Unit Refusal → Split L R → Type 0
+OneSide f g s r t = (f s.left r t.left × (t.right ≡ s.right)) ⊎ (g s.right r t.right × (t.left ≡ s.left))
+
+-- What the left store has of something, and then what the right one has.
+abbrev pub both_lists : {L R : Type 0} → (L → List ℕ) → (R → List ℕ) → Split L R → List ℕ
+both_lists f g s = f s.left ++ g s.right
+
+-- Something holds of both stores.
+abbrev pub BothAre : {L R : Type 0} → (L → Type 0) → (R → Type 0) → Split L R → Type 0
+BothAre f g s = f s.left × g s.right

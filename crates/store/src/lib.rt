@@ -1,8 +1,12 @@
-// Stores: a fixed set of keys with one cell for each, in memory that the caller lends.
+//! What a store is: a fixed set of keys with one cell for each; and a store that stands on two others.
 #![tactic(auto)]
 
-pub mod cell;
-pub mod fault;
-pub mod memory;
-pub mod split;
-pub mod store;
+mod cell;
+mod lent;
+mod split;
+mod store;
+
+pub use cell::Cell;
+pub use lent::Lent;
+pub use split::Split;
+pub use store::Store;

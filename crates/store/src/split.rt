@@ -1,15 +1,13 @@
-ghost use Rattle.std.specs.Prelude.{◌≡◌};
-ghost use Rattle.store.specs.Faults.{checked};
-ghost use Rattle.store.specs.Stores.{Put, Refuses};
-ghost use Rattle.store.specs.Splits.{split_fault, goes_left, cells_of, both_sound, both_lent, Sides};
+ghost use Rattle.std.specs.Prelude.{◌≡◌, Err};
+ghost use Rattle.store.specs.Stores.{Put};
+ghost use Rattle.store.specs.Splits.{goes_left, cells_of, OneSide, Sides};
 
 use crate::cell::Cell;
-use crate::fault::{Cause, Fault};
+use crate::lent::Lent;
 use crate::store::Store;
-use wire::place::Place;
-use wire::refusal::Refusal;
+use base::{Place, Refusal};
 
-// A store of two others: grounds below the boundary are the left one's, the others the right one's.
+/// A store of two others: grounds below the boundary are the left one's, the others the right one's.
 #[derive(Drop)]
 pub struct Split<L, R> {
     boundary: u16,
@@ -17,18 +15,8 @@ pub struct Split<L, R> {
     right: R,
 }
 
-// That a boundary lies from 0 to 8, or the fault that it does not.
-pub fn check_boundary(boundary: u16) -> Result<(), Fault>
-    ensures { result ≡ checked (split_fault boundary) }
-{
-    if boundary > 8 {
-        return Err(Cause::BoundaryAbove8.into());
-    }
-    Ok(())
-}
-
 impl<L, R> Split<L, R> {
-    // The two stores with a boundary between them; one above 8 sends all left.
+    /// The two stores with a boundary between them, 0 to 8; a larger one sends all left.
     pub fn new(boundary: u16, left: L, right: R) -> Split<L, R>
         ensures boundary { result.boundary ≡ boundary }
         ensures left { result.left ≡ left }
@@ -52,9 +40,7 @@ impl<L, R> Split<L, R> {
 impl<L: Store, R: Store> Store for Split<L, R> {
     ghost cells = { λ s. cells_of L.Store.cells R.Store.cells s };
 
-    ghost sound = { λ s. both_sound L.Store.sound R.Store.sound s };
-
-    ghost lent = { λ s. both_lent L.Store.lent R.Store.lent s };
+    ghost beside = { λ s r t. OneSide L.Store.beside R.Store.beside s r t };
 
     fn fetch(&self, key: u16) -> Option<Cell> {
         if self.goes_left(key) {
@@ -64,12 +50,10 @@ impl<L: Store, R: Store> Store for Split<L, R> {
         }
     }
 
-    // Only the store on the key's side changes.
+    /// As any store's, and only the store on the key's side changes.
     fn put(&mut self, key: u16, cell: Cell) -> Result<(), Refusal>
         ensures put { Put (cells_of L.Store.cells R.Store.cells self.old) (cells_of L.Store.cells R.Store.cells self.new) key cell result }
-        ensures refused { Refuses result (self.new ≡ self.old) }
-        ensures sound { both_sound L.Store.sound R.Store.sound self.old → both_sound L.Store.sound R.Store.sound self.new }
-        ensures lent { both_lent L.Store.lent R.Store.lent self.new ≡ both_lent L.Store.lent R.Store.lent self.old }
+        ensures beside { OneSide L.Store.beside R.Store.beside self.old result self.new }
         ensures boundary { self.new.boundary ≡ self.old.boundary }
         ensures sides { Sides L.Store.cells R.Store.cells self.old self.new key cell result }
     {
@@ -79,4 +63,24 @@ impl<L: Store, R: Store> Store for Split<L, R> {
             self.right.put(key, cell)
         }
     }
+}
+
+impl<L: Lent, R: Lent> Lent for Split<L, R> {
+    ghost use Rattle.store.specs.Splits.{both_lists, BothAre};
+    ghost use Rattle.store.specs.SplitPuts.{both_stay, both_stay_sound};
+
+    ghost lent = { λ s. both_lists L.Lent.lent R.Lent.lent s };
+
+    ghost sound = { λ s. BothAre L.Lent.sound R.Lent.sound s };
+
+    ghost words = { λ s. both_lists L.Lent.words R.Lent.words s };
+
+    ghost lent_stays = { λ s t r. both_stay L.Lent.lent R.Lent.lent L.Store.beside R.Store.beside s t r
+        (λ a b. L.Lent.lent_stays a b r) (λ a b. R.Lent.lent_stays a b r) };
+
+    ghost sound_stays = { λ s t r. both_stay_sound L.Lent.sound R.Lent.sound L.Store.beside R.Store.beside s t r
+        (λ a b. L.Lent.sound_stays a b r) (λ a b. R.Lent.sound_stays a b r) };
+
+    ghost words_stay = { λ s t e. both_stay L.Lent.words R.Lent.words L.Store.beside R.Store.beside s t (Err e)
+        (λ a b. L.Lent.words_stay a b e) (λ a b. R.Lent.words_stay a b e) };
 }

@@ -1,4 +1,4 @@
 pub mod Chunks
-pub mod Clash
-pub mod Stamps
+pub mod Filling
+pub mod Words
 pub mod Written

@@ -1,11 +1,9 @@
 -- Words from bytes, the lowest byte first.
 --   words_in bs   the words of whole groups of four bytes
-use Rattle.std.specs.Prelude.{ℕ, ◌+◌, ◌*◌, List, [], ◌∷◌}
+use Rattle.std.specs.Prelude.{ℕ, ◌/◌, List, length, map}
+use Rattle.std.specs.Int.{from_le_bytes, w32}
+use Rattle.std.specs.Simd.{first_chunks}
 
 -- The words of whole groups of four bytes, each with its lowest byte first; what is left over is no word.
 abbrev pub words_in : List ℕ → List ℕ
-words_in [] = []
-words_in (a ∷ []) = []
-words_in (a ∷ b ∷ []) = []
-words_in (a ∷ b ∷ c ∷ []) = []
-words_in (a ∷ b ∷ c ∷ d ∷ bs) = (a + b * 256 + c * 65536 + d * 16777216) ∷ words_in bs
+words_in bs = map (from_le_bytes w32) (first_chunks 4 (length bs / 4) bs)

@@ -1,17 +1,17 @@
-ghost use Rattle.std.specs.Prelude.{◌≡◌, ◌%◌, length, IfOk};
+ghost use Rattle.std.specs.Prelude.{◌≡◌, ◌/◌, ◌%◌, ◌++◌, drop, length, take};
 ghost use Rattle.wire.specs.Bytes.{words_in};
 
-use std::alloc::{AllocError, Global};
-
-// The little-endian words of whole groups of four bytes, and how many bytes were left over.
-pub fn words_in(heap: Global, bytes: &[u8]) -> Result<(Vec<u32>, usize), AllocError>
-    ensures words { IfOk result (λ p. p.0.items ≡ words_in bytes.now) }
-    ensures left { IfOk result (λ p. p.1 ≡ length bytes.now % 4) }
+/// Writes the little-endian words of whole groups of four bytes over the front of `words`, as many as there is room for, and leaves what
+/// lies behind them. Answers how many bytes are left over after the last whole group, 0 to 3.
+pub fn fill_words(words: &mut [u32], bytes: &[u8]) -> usize
+    ensures words { words.new ≡ take (length words.old) (words_in bytes.now) ++ drop (length (words_in bytes.now)) words.old }
+    ensures all { length words.old ≡ length bytes.now / 4 → words.new ≡ words_in bytes.now }
+    ensures left { result ≡ length bytes.now % 4 }
 {
     let (groups, left) = bytes.as_chunks::<4>();
-    let words = groups
-        .iter()
-        .map(|group| u32::from_le_bytes(*group))
-        .collect(heap)?;
-    Ok((words, left.len()))
+    let count = groups.len().min(words.len());
+    for i in 0..count {
+        words[i] = u32::from_le_bytes(groups[i]);
+    }
+    left.len()
 }

@@ -1,12 +1,12 @@
-ghost use Rattle.book.specs.Books.{Added, Replaced, Stays};
+ghost use Rattle.book.specs.Books.{Stays, AddsLine, ReplacesLine};
 
 use crate::book::Book;
-use wire::refusal::Refusal;
+use base::Refusal;
 
 impl<'a, L: Copy> Book<'a, L> {
-    // Adds a line at the end. A full book refuses, and leaves the whole memory as it was.
+    /// Adds a line at the end. A full book refuses with 2, and leaves the whole memory as it was.
     pub fn add(&mut self, line: L) -> Result<(), Refusal>
-        ensures cases { Added line self.old self.new result }
+        ensures cases { AddsLine line self.old self.new result }
         ensures stays { Stays self.old self.new }
     {
         if self.free() == 0 {
@@ -17,10 +17,9 @@ impl<'a, L: Copy> Book<'a, L> {
         Ok(())
     }
 
-    // Replaces the line number i and answers true; past the end it answers false and changes nothing.
-    // An `Option<()>` would say as much in more words.
+    /// Replaces the line number i and answers true; past the end it answers false and changes nothing.
     pub fn set(&mut self, i: usize, line: L) -> bool
-        ensures cases { Replaced i line self.old self.new result }
+        ensures cases { ReplacesLine i line self.old self.new result }
         ensures stays { Stays self.old self.new }
     {
         if i >= self.count {

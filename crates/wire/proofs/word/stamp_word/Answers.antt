@@ -1,9 +1,11 @@
 use Rattle.std.proofs.Common.{◌≡◌, ap, ◌∙◌}
-use Rattle.wire.specs.Words.{stamp_in, stamp_word}
-use Rattle.wire.proofs.Stamps.{stamp_back}
+use Rattle.base.specs.Words.{stamp_word}
+use Rattle.wire.specs.Words.{stamp_in, stamp_kind}
+use Rattle.wire.proofs.Words.{stamp_back}
 use Rattle.wire.proofs.word.stamp_word.Goals as goal
 
 pub returns-clause-back : goal.returns-clause-back
 returns-clause-back c =
-    let e : c.word.result ≡ stamp_word c.args.kind c.args.stamp = cc in
-    ap (stamp_in c.args.kind) e ∙ stamp_back c.args.kind c.args.stamp
+    let k = stamp_kind c.args.kind in
+    let e : c.word_of.result ≡ stamp_word k c.args.stamp = cc in
+    ap (stamp_in k) e ∙ stamp_back k c.args.stamp
