@@ -1,9 +1,8 @@
--- The invariant, and the changes of fates, cells and notes that keep it.
-pub mod Invariant
+-- The changes of fates, cells and notes that keep the invariant.
 pub mod Steady
 pub mod OneTurn
 pub mod Turning
-pub mod OnlyFate
+pub mod OneFate
 pub mod Turns
 pub mod Passing
 pub mod Settling

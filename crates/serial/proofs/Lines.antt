@@ -2,5 +2,6 @@
 pub mod Found
 pub mod Kept
 pub mod Member
+pub mod All
 pub mod ByKey
 pub mod RowKeys

@@ -1,3 +1,4 @@
 -- A ground's validation depends on that ground alone.
 pub mod Locality
 pub mod Alike
+pub mod ShortKeys

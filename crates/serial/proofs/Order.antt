@@ -4,3 +4,4 @@ pub mod OrderTells
 pub mod Writers
 pub mod Sources
 pub mod SerialLaw
+pub mod InPlainWords

@@ -3,3 +3,4 @@ pub mod Checks
 pub mod Transactions
 pub mod Accesses
 pub mod AtGrounds
+pub mod StampRanges

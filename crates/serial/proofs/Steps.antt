@@ -1,5 +1,4 @@
 -- Every call makes one of the changes of Changes.antt.
-pub mod Holding
 pub mod BoundsByLines
 pub mod BoundsByNotes
 pub mod Meeting
@@ -17,3 +16,4 @@ pub mod Lasting
 pub mod AccessCalls
 pub mod EndingCalls
 pub mod AllSteps
+pub mod DayHolds

@@ -1,12 +1,15 @@
 -- The run over an arrangement of committed transactions, and when an arrangement tells a day.
---   told h ts vs       each accepted read of the transactions ts, in their order, was answered what it finds, from the values vs on
---   after_all h ts vs  the values at the end
---   in_order cs        commits by rising stamp, equal stamps by rising number
---   serial_order h     the transactions that committed, in that order
-use Rattle.std.specs.Prelude.{ℕ, Bool, true, false, cond, ◌&&◌, ◌||◌, List, [], ◌∷◌, map, ℤ, pos, negsuc, Some, None, Option, ◌==◌, nat_lt}
-use Rattle.std.specs.Option.{option_map}
+--   values_after h ts vs      the values at the end of the run of the transactions ts, from the values vs on
+--   values_before h ts t vs   the values that the reads of t find in it
+--   reads_found h ts vs       each accepted read of the transactions ts was answered what it finds
+--   ordered_commits cs        commits by rising stamp, equal stamps by rising number
+--   serial_order h            the transactions that committed, in that order
+use Rattle.std.specs.Prelude.{ℕ, Bool, true, false, cond, ◌&&◌, ◌||◌, List, [], ◌∷◌, map, ℤ, Some, None, Option, ◌==◌, nat_lt}
+use Rattle.std.specs.Option.{option_map, option_or}
+use Rattle.std.specs.Ordering.{int_eq}
+use Rattle.std.specs.List.{list_all}
 use Rattle.store.specs.Stores.{Cells}
-use Rattle.serial.specs.Ledger.{History, Commit, reads_of, last_prewritten, commits}
+use Rattle.serial.specs.Ledger.{History, Commit, reads_of, last_prewrite, commits}
 
 -- The values that cells hold.
 abbrev pub Values : Type 0
@@ -16,56 +19,44 @@ Values = ℕ → Option ℤ
 abbrev pub values : Cells → Values
 values cells k = option_map (λ c. c.value) (cells k)
 
--- What was put takes the place of what was there.
-abbrev pub written_over : Option ℤ → Option ℤ → Option ℤ
-written_over None old = old
-written_over (Some v) old = Some v
-
 -- The values after one transaction wrote the last accepted value of each cell that it prewrote.
-abbrev pub after_one : History → ℕ → Values → Values
-after_one h t vs k = written_over (last_prewritten h t k) (vs k)
+abbrev pub values_after_one : History → ℕ → Values → Values
+values_after_one h t vs k = option_or (last_prewrite h t k) (vs k)
 
 -- The values after all transactions of an arrangement.
-abbrev pub after_all : History → List ℕ → Values → Values
-after_all h [] vs = vs
-after_all h (t ∷ ts) vs = after_all h ts (after_one h t vs)
+abbrev pub values_after : History → List ℕ → Values → Values
+values_after h [] vs = vs
+values_after h (t ∷ ts) vs = values_after h ts (values_after_one h t vs)
 
--- Whether two values are the same.
-abbrev pub same_value : ℤ → ℤ → Bool
-same_value (pos a) (pos b) = a == b
-same_value (pos a) (negsuc b) = false
-same_value (negsuc a) (pos b) = false
-same_value (negsuc a) (negsuc b) = a == b
+-- The values that a transaction's reads find: those after all that come before it.
+abbrev pub values_before : History → List ℕ → ℕ → Values → Values
+values_before h [] t vs = vs
+values_before h (u ∷ us) t vs = cond (u == t) vs (values_before h us t (values_after_one h u vs))
 
 -- Whether a read finds a value.
-abbrev pub finds : Option ℤ → ℤ → Bool
-finds None v = false
-finds (Some x) v = same_value x v
-
--- Each of some reads was answered what it finds.
-abbrev pub all_found : Values → List (ℕ × ℤ) → Bool
-all_found vs [] = true
-all_found vs (p ∷ ps) = finds (vs p.0) p.1 && all_found vs ps
+abbrev pub is_found : Option ℤ → ℤ → Bool
+is_found None v = false
+is_found (Some x) v = int_eq x v
 
 -- Each transaction makes all its reads and then its writes.
-abbrev pub told : History → List ℕ → Values → Bool
-told h [] vs = true
-told h (t ∷ ts) vs = all_found vs (reads_of h t) && told h ts (after_one h t vs)
+abbrev pub reads_found : History → List ℕ → Values → Bool
+reads_found h [] vs = true
+reads_found h (t ∷ ts) vs = list_all (λ p. is_found (vs p.0) p.1) (reads_of h t) && reads_found h ts (values_after_one h t vs)
 
 -- A commit comes before another: by stamp, then by number.
-abbrev pub earlier : Commit → Commit → Bool
-earlier a b = nat_lt a.stamp b.stamp || (a.stamp == b.stamp && nat_lt a.number b.number)
+abbrev pub is_earlier : Commit → Commit → Bool
+is_earlier a b = nat_lt a.stamp b.stamp || (a.stamp == b.stamp && nat_lt a.number b.number)
 
 -- A commit put in its place among others.
-abbrev pub inserted : Commit → List Commit → List Commit
-inserted c [] = c ∷ []
-inserted c (d ∷ ds) = cond (earlier c d) (c ∷ d ∷ ds) (d ∷ inserted c ds)
+abbrev pub insertion : Commit → List Commit → List Commit
+insertion c [] = c ∷ []
+insertion c (d ∷ ds) = cond (is_earlier c d) (c ∷ d ∷ ds) (d ∷ insertion c ds)
 
 -- Commits in the order of (stamp, number).
-abbrev pub in_order : List Commit → List Commit
-in_order [] = []
-in_order (c ∷ cs) = inserted c (in_order cs)
+abbrev pub ordered_commits : List Commit → List Commit
+ordered_commits [] = []
+ordered_commits (c ∷ cs) = insertion c (ordered_commits cs)
 
 -- The arrangement of the serial run.
 abbrev pub serial_order : History → List ℕ
-serial_order h = map (λ c. c.number) (in_order (commits h))
+serial_order h = map (λ c. c.number) (ordered_commits (commits h))

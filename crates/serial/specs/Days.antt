@@ -1,36 +1,28 @@
--- A day: a register, and the history of the calls that were made on it since it was new.
---   new_day cells rooms    a register that is new
---   day_after P d cs       the day after some more calls
---   Meaning P              what a policy means
-use Rattle.std.specs.Prelude.{◌≡◌, List, [], ◌∷◌, ℤ, ◌≤ℤ◌, ◌<ℤ◌}
-use Rattle.policy.specs.Ranges.{Within}
+-- A day: the calls that were made on a register since it was new, each with its answer.
+--   IsDay P first rooms h m   the history h leads from a new register, with the cells first and these rooms, to the register m
+--   history_after P m h cs    the history h with the calls cs, made on the register m, and their answers
+--   DaysAreCalls              any calls make a day, and its history leads to one register
+use Rattle.std.specs.Prelude.{◌≡◌, List, [], ◌∷◌}
 use Rattle.store.specs.Stores.{Cells}
-use Rattle.register.specs.Calls.{step}
-use Rattle.register.specs.Model.{Model, Chooses, Rooms, new}
-use Rattle.register.specs.declared.call.Call.{Call}
+use Rattle.protocol.specs.Calls.{step, register_after}
+use Rattle.protocol.specs.Model.{Model, Chooses, Rooms, new}
+use Rattle.protocol.specs.declared.call.Call.{Call}
 use Rattle.serial.specs.Ledger.{History}
 
--- A register with its history.
-pub record Day : Type 0 where
-  pub model : Model
-  pub history : History
+-- No call has been made, and the register is new; or the newest call was made on the register that the others lead to: it was
+-- answered, and left what there is, as its definition says.
+abbrev pub IsDay : Chooses → Cells → Rooms → History → Model → Type 0
+IsDay P first rooms [] m = m ≡ new first rooms
+IsDay P first rooms (e ∷ h) m = (before : Model) × IsDay P first rooms h before × ((m, e.1) ≡ step P before e.0)
 
--- A day that begins: any cells, any rooms.
-abbrev pub new_day : Cells → Rooms → Day
-new_day cells rooms = record { model = new cells rooms; history = [] }
+-- A history after some more calls, made in their order.
+abbrev pub history_after : Chooses → Model → History → List Call → History
+history_after P m h [] = h
+history_after P m h (c ∷ cs) = history_after P (step P m c).0 ((c, (step P m c).1) ∷ h) cs
 
--- The day after one more call.
-abbrev pub next : Chooses → Day → Call → Day
-next P d c = record { model = (step P d.model c).0; history = (c, (step P d.model c).1) ∷ d.history }
-
--- The day after some more calls.
-abbrev pub day_after : Chooses → Day → List Call → Day
-day_after P d [] = d
-day_after P d (c ∷ cs) = day_after P (next P d c) cs
-
--- Of a range that is not empty a policy takes a part that is not empty; where both lists are empty, the range as given. An empty
--- range comes back.
-pub record Meaning (P : Chooses) : Type 0 where
-  pub within : (l u : ℤ) (bs cs : List ℤ) → l ≤ℤ u → Within l u (P l u bs cs)
-  pub whole : (l u : ℤ) → P l u [] [] ≡ (l, u)
-  pub empty : (l u : ℤ) (bs cs : List ℤ) → u <ℤ l → P l u bs cs ≡ (l, u)
+-- Any calls on a new register make a day; and the history of a day leads to one register.
+pub record DaysAreCalls : Type 0 where
+  pub any_calls : (P : Chooses) (first : Cells) (rooms : Rooms) (calls : List Call)
+      → IsDay P first rooms (history_after P (new first rooms) [] calls) (register_after P (new first rooms) calls)
+  pub one_register : (P : Chooses) (first : Cells) (rooms : Rooms) (h : History) (m n : Model)
+      → IsDay P first rooms h m → IsDay P first rooms h n → m ≡ n

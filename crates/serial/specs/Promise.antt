@@ -1,22 +1,34 @@
 -- The whole promise.
---   Promised P cells rooms calls   what is promised of some calls on a new register
---   Promise                        it is promised of all calls, over any cells and rooms, under any policy that keeps its meaning
-use Rattle.std.specs.Prelude.{List}
+--   LocalThroughout P first rooms h   a validation depends on its ground alone, wherever in the history h of a day
+--   Promised P first rooms h m        a day, whose history h led from the first cells to the register m, and what is promised of it
+--   Promise                           it is promised of every day, under any policy that keeps its meaning
+use Rattle.std.specs.Prelude.{◌≡◌, ◌++◌}
 use Rattle.store.specs.Stores.{Cells}
-use Rattle.register.specs.Model.{Chooses, Rooms}
-use Rattle.register.specs.declared.call.Call.{Call}
-use Rattle.serial.specs.Agreement.{LocalUnder}
-use Rattle.serial.specs.Alone.{AloneIn}
-use Rattle.serial.specs.Days.{Meaning}
-use Rattle.serial.specs.Serial.{Serial}
+use Rattle.policy.specs.Ranges.{Meaning}
+use Rattle.protocol.specs.Model.{Model, Chooses, Rooms}
+use Rattle.serial.specs.Agreement.{LocalAt}
+use Rattle.serial.specs.Alone.{Alone}
+use Rattle.serial.specs.Arrangements.{serial_order}
+use Rattle.serial.specs.Days.{IsDay}
+use Rattle.serial.specs.Ledger.{History}
+use Rattle.serial.specs.Serial.{Tells, IsSerial}
 
--- Committed transactions are serial in the order of (stamp, number); a transaction alone commits while stamps last; a ground's
--- validation depends on that ground alone.
-pub record Promised (P : Chooses) (cells : Cells) (rooms : Rooms) (calls : List Call) : Type 0 where
-  pub serial : Serial P cells rooms calls
-  pub alone : AloneIn P cells rooms calls
-  pub local : LocalUnder P
+-- A validation on the register that any earlier part of the history led to depends on its ground alone.
+abbrev pub LocalThroughout : Chooses → Cells → Rooms → History → Type 0
+LocalThroughout P first rooms h =
+    (later earlier : History) → h ≡ later ++ earlier → (found : Model) → IsDay P first rooms earlier found → LocalAt P found
 
--- Of any calls, cells and rooms, and any policy that keeps its meaning.
+-- The history is that of a day. Committed transactions are serial in the order of (stamp, number), ground by ground, and so in all; a transaction alone commits while
+-- stamps last; every validation, and one that comes next, depends on its ground alone.
+pub record Promised (P : Chooses) (first : Cells) (rooms : Rooms) (h : History) (m : Model) : Type 0 where
+  pub day : IsDay P first rooms h m
+  pub tells : Tells first h m.cells (serial_order h)
+  pub serial : IsSerial first h m.cells
+  pub alone : Alone P first rooms h
+  pub local : LocalThroughout P first rooms h
+
+-- Of any first cells, rooms and history, and any policy that keeps its meaning.
 abbrev pub Promise : Type 0
-Promise = (P : Chooses) → Meaning P → (cells : Cells) (rooms : Rooms) (calls : List Call) → Promised P cells rooms calls
+Promise =
+    (P : Chooses) → Meaning P → (first : Cells) (rooms : Rooms) (h : History) (m : Model) → IsDay P first rooms h m
+    → Promised P first rooms h m

@@ -1,23 +1,25 @@
 -- Committed transactions are serial in the order of (stamp, number).
---   Tells cells d ts   the arrangement ts tells the day d, which began with the cells given
---   Serial             the arrangement by rising (stamp, number) tells the day of some calls
-use Rattle.std.specs.Prelude.{◌≡◌, ℕ, true, false, List}
+--   Tells first h now ts   the arrangement ts tells the history h, from the first cells to those there are now
+--   IsSerial first h now   the serial run answers every accepted read of a committed transaction, and ends with the cells there are now
+use Rattle.std.specs.Prelude.{◌≡◌, ℕ, true, false, List, ℤ, Some, Ok, Contains}
 use Rattle.store.specs.Stores.{Cells}
-use Rattle.wire.specs.Keys.{ground_of}
-use Rattle.register.specs.Model.{Chooses, Rooms}
-use Rattle.register.specs.declared.call.Call.{Call}
-use Rattle.serial.specs.Days.{Day, new_day, day_after}
-use Rattle.serial.specs.Ledger.{owed}
-use Rattle.serial.specs.Arrangements.{values, after_all, told, serial_order}
+use Rattle.base.specs.Keys.{ground_of}
+use Rattle.base.specs.declared.stamp.Stamp.{Stamp}
+use Rattle.protocol.specs.declared.call.Call.TheVariants.{Read, Decide}
+use Rattle.protocol.specs.declared.call.Reply.TheVariants.{Value, Committed}
+use Rattle.serial.specs.Ledger.{History, is_owed}
+use Rattle.serial.specs.Arrangements.{values, serial_order, reads_found, values_before, values_after}
 
 -- Each accepted read of an arranged transaction was answered the value that it finds there; of others nothing is said. On a ground
--- where nothing is owed every cell holds the value at the arrangement's end; so all cells do where nothing is owed at all.
-pub record Tells (cells : Cells) (d : Day) (ts : List ℕ) : Type 0 where
-  pub reads : told d.history ts (values cells) ≡ true
-  pub ends : (k : ℕ) → owed d.history (ground_of k) ≡ false → values d.model.cells k ≡ after_all d.history ts (values cells) k
+-- where nothing is owed every cell holds the value at the arrangement's end.
+pub record Tells (first : Cells) (h : History) (now : Cells) (ts : List ℕ) : Type 0 where
+  pub reads : reads_found h ts (values first) ≡ true
+  pub ends : (k : ℕ) → is_owed h (ground_of k) ≡ false → values now k ≡ values_after h ts (values first) k
 
--- Of some calls on a new register: the arrangement by rising (stamp, number) tells the day.
-abbrev pub Serial : Chooses → Cells → Rooms → List Call → Type 0
-Serial P cells rooms calls =
-    let d : Day = day_after P (new_day cells rooms) calls in
-    Tells cells d (serial_order d.history)
+-- What follows for the serial run, in plain words. Every accepted read of a committed transaction answered the value that its read of
+-- that key finds in the run. Once no committed transaction is owed a settlement at any ground, every cell holds the value that it has
+-- at the run's end.
+pub record IsSerial (first : Cells) (h : History) (now : Cells) : Type 0 where
+  pub reads : (t k : ℕ) (v : ℤ) (seen c : Stamp) → Contains h (Read t k, Ok (Value v seen)) → Contains h (Decide t, Ok (Committed c))
+      → values_before h (serial_order h) t (values first) k ≡ Some v
+  pub ends : ((g : ℕ) → is_owed h g ≡ false) → (k : ℕ) → values now k ≡ values_after h (serial_order h) (values first) k

@@ -1,4 +1,4 @@
-// What is promised of the calls.
+//! What is promised of the calls.
 #![tactic(auto)]
 
 pub mod law;

@@ -1,37 +1,36 @@
 -- A transaction that begins while none is pending is alone.
---   begun_solo    a begin that is accepted then leaves it alone
+--   begun_solo   a begin that is accepted then leaves it alone
 use Rattle.std.proofs.Common.{◌≡◌, ℕ, ◌<◌, ◌≤◌, Bool, true, false, cond, ◌&&◌, ltb, leb, List, Ok, Err, Result, sym, refl, ◌∙◌, inr, arith}
 use Rattle.std.proofs.ByRecursion.{All-weaker}
 use Rattle.std.proofs.lemmas.Bool.{and_parts, ltb-true, ne_eqb, true≢false, false≢true}
-use Rattle.wire.proofs.Clash.{clash}
-use Rattle.wire.specs.declared.refusal.Refusal.{Refusal}
-use Rattle.wire.specs.declared.refusal.Refusal.TheVariants.{BadNumber}
+use Rattle.base.specs.declared.refusal.Refusal.{Refusal}
+use Rattle.base.specs.declared.refusal.Refusal.TheVariants.{BadNumber}
 use Rattle.lines.specs.declared.transaction.Transaction.{Transaction}
-use Rattle.register.specs.Calls.{step, done}
-use Rattle.register.specs.Checks.{last_begun, new_number}
-use Rattle.register.specs.Model.{Model, Chooses, with_transactions}
-use Rattle.register.specs.declared.call.Call.TheVariants as call
+use Rattle.protocol.specs.Calls.{step, done_response}
+use Rattle.protocol.specs.Checks.{last_begun, check_number}
+use Rattle.protocol.specs.Model.{Model, Chooses, with_transactions}
+use Rattle.protocol.specs.declared.call.Call.TheVariants as call
 use Rattle.serial.specs.Alone.{NonePending}
-use Rattle.serial.specs.Ledger.{History, accepted}
-use Rattle.serial.proofs.Alone.Known.{Known, known_begun}
+use Rattle.serial.specs.Ledger.{History, is_accepted}
+use Rattle.serial.proofs.Numbers.Known.{known_begun}
 use Rattle.serial.proofs.Outcomes.Transactions.{begin_cases}
-use Rattle.serial.proofs.Alone.StillPending.{LivePending}
 use Rattle.serial.proofs.Alone.Quiet.{Unnamed}
 use Rattle.serial.proofs.Alone.Solo.{Solo}
-use Rattle.serial.proofs.Alone.SoloStep.{Now}
+use Rattle.serial.proofs.Alone.SoloStep.{SoloOrDecided}
+use Rattle.serial.proofs.Invariant.{LivePending, Known}
 
 -- A number above all in the books is none of them.
 above_not : (n t u : ℕ) → n < t → u ≤ n → u ≡ t → ⊥
 above_not n t u a b e = omega arith
 
 -- A number that was accepted is above all that were begun.
-new_above : (m : Model) (t : ℕ) → new_number m t ≡ Ok tt → last_begun m < t
+new_above : (m : Model) (t : ℕ) → check_number m t ≡ Ok tt → last_begun m < t
 new_above m t e = go (ltb (last_begun m) t && leb t 4095) refl e
   where
     go : (b : Bool) → (ltb (last_begun m) t && leb t 4095) ≡ b → ◌≡◌ {A = Result Unit Refusal} (cond b (Ok tt) (Err BadNumber)) (Ok tt)
         → last_begun m < t
     go true s q = ltb-true _ _ (and_parts (ltb (last_begun m) t) _ s).0
-    go false s q = clash cc
+    go false s q = absurd cc
 
 -- A transaction that begins while none is pending is alone.
 begin_solo : (m : Model) (h : History) (t : ℕ) (xs : List Transaction) → Known m → LivePending m.rows h → NonePending h
@@ -52,8 +51,8 @@ begin_solo m h t xs known lives none new =
 
 -- A begin that is accepted leaves its transaction alone.
 pub begun_solo : (P : Chooses) (m : Model) (h : History) (t : ℕ) → Known m → LivePending m.rows h → NonePending h
-    → accepted (step P m (call.Begin t)).1 ≡ true → Now t m.cells (step P m (call.Begin t)).0
+    → is_accepted (step P m (call.Begin t)).1 ≡ true → SoloOrDecided t m.cells (step P m (call.Begin t)).0
 begun_solo P m h t known lives none =
-    begin_cases m t (λ o. accepted (done o.1) ≡ true → Now t m.cells o.0)
+    begin_cases m t (λ o. is_accepted (done_response o.1) ≡ true → SoloOrDecided t m.cells o.0)
     (λ e q. absurd (false≢true q))
     (λ new _. inr (begin_solo m h t _ known lives none (new_above m t new)))

@@ -1,57 +1,58 @@
 -- A transaction that has the register to itself commits.
---   alone_in    in a day of the calls before its begin, its own, and those after its decide
---   alone       the promise
-use Rattle.std.proofs.Common.{◌≡◌, ℕ, List, [], ◌∷◌, ◌++◌, refl}
+--   alone   wherever in the history of a day
+use Rattle.std.proofs.Common.{◌≡◌, ℕ, true, [], ◌∷◌, ◌++◌, append_assoc, sym, ap, ◌∙◌, subst}
 use Rattle.std.specs.List.{AllByRecursion}
 use Rattle.store.specs.Stores.{Cells}
-use Rattle.wire.proofs.Clash.{clash}
-use Rattle.register.specs.Calls.{step}
-use Rattle.register.specs.Model.{Chooses, Rooms}
-use Rattle.register.specs.declared.call.Call.{Call}
-use Rattle.register.specs.declared.call.Call.TheVariants as call
-use Rattle.serial.specs.Alone.{Fresh, Alone, AloneIn, caller, key_in, keys_of}
-use Rattle.serial.specs.Days.{Day, new_day, next, day_after, Meaning}
-use Rattle.serial.proofs.Alone.Known.{all_first, Known}
-use Rattle.serial.proofs.Alone.Begun.{known_day}
-use Rattle.serial.proofs.Alone.StillPending.{LivePending}
-use Rattle.serial.proofs.Alone.Pending.{live_day}
-use Rattle.serial.proofs.Alone.SoloStep.{Now, solo_step}
+use Rattle.policy.specs.Ranges.{Meaning}
+use Rattle.protocol.specs.Calls.{step}
+use Rattle.protocol.specs.Model.{Model, Chooses, Rooms}
+use Rattle.protocol.specs.Replies.{Response}
+use Rattle.protocol.specs.declared.call.Call.TheVariants.{Begin, Decide}
+use Rattle.serial.specs.Alone.{NonePending, IsFresh, Commits, Alone, caller, key_in, keys_of}
+use Rattle.serial.specs.Days.{IsDay}
+use Rattle.serial.specs.Ledger.{History, is_accepted}
+use Rattle.serial.proofs.Days.{same_day, earlier_day}
+use Rattle.serial.proofs.Steps.DayHolds.{invariant_day}
+use Rattle.serial.proofs.Alone.SoloStep.{SoloOrDecided, solo_step}
 use Rattle.serial.proofs.Alone.DecideCommits.{decide_commits}
 use Rattle.serial.proofs.Alone.BeginSolo.{begun_solo}
+use Rattle.serial.proofs.Lines.All.{all_first, all_later}
 
--- The keys of a day are among those of the day after more calls.
-keys_grow : (Q : ℕ → Type 0) (P : Chooses) (t : ℕ) (d : Day) (cs : List Call) → AllByRecursion Q (keys_of (day_after P d cs).history t)
-    → AllByRecursion Q (keys_of d.history t)
-keys_grow Q P t d [] a = a
-keys_grow Q P t d (c ∷ cs) a = later (key_in t c (step P d.model c).1) (keys_grow Q P t (next P d c) cs a)
-  where
-    later : (xs : List ℕ) → AllByRecursion Q (xs ++ keys_of d.history t) → AllByRecursion Q (keys_of d.history t)
-    later [] h = h
-    later (x ∷ xs) h = later xs h.1
+module _ (P : Chooses) (means : Meaning P) (first : Cells) (rooms : Rooms) (t : ℕ) (earlier : History) (begun : Response)
+    (found : Model) (day : IsDay P first rooms earlier found) (none : NonePending earlier) (begins : is_accepted begun ≡ true) where
+  -- After its begin it is alone.
+  after_begin : (m : Model) → IsDay P first rooms ((Begin t, begun) ∷ earlier) m → SoloOrDecided t found.cells m
+  after_begin m (w, i, p) =
+      let now = invariant_day P means first rooms earlier found day in
+      subst (λ (x : Model × Response). is_accepted x.1 ≡ true → SoloOrDecided t found.cells x.0)
+      (ap (λ b. step P b (Begin t)) (same_day P first rooms earlier found w day i) ∙ sym p)
+      (begun_solo P found earlier t now.known now.live none)
+      begins
 
--- It is decided or alone after all its calls.
-solo_day : (P : Chooses) → Meaning P → (t : ℕ) (found : Cells) (d : Day) (own : List Call) → Now t found d.model
-    → AllByRecursion (λ c. caller c ≡ t) own → AllByRecursion (Fresh found) (keys_of (day_after P d own).history t)
-    → Now t found (day_after P d own).model
-solo_day P means t found d [] n a f = n
-solo_day P means t found d (c ∷ cs) n a f =
-    solo_day P means t found (next P d c) cs
-    (solo_step t found P means d.model c a.0 n
-    (all_first (Fresh found) (key_in t c (step P d.model c).1) _ (keys_grow (Fresh found) P t (next P d c) cs f)))
-    a.1 f
+  -- After each of its calls it is still alone, or decided.
+  after_calls : (own : History) (m : Model) → IsDay P first rooms (own ++ (Begin t, begun) ∷ earlier) m
+      → AllByRecursion (λ e. caller e.0 ≡ t) own → AllByRecursion (IsFresh found.cells) (keys_of own t) → SoloOrDecided t found.cells m
+  after_calls [] m i only fresh = after_begin m i
+  after_calls (e ∷ own) m (w, i, p) only fresh =
+      let new = key_in t e.0 e.1 in
+      subst (λ (x : Model × Response). AllByRecursion (IsFresh found.cells) (key_in t e.0 x.1) → SoloOrDecided t found.cells x.0) (sym p)
+      (solo_step t found.cells P means w e.0 only.0
+      (after_calls own w i only.1 (all_later (IsFresh found.cells) new (keys_of own t) fresh)))
+      (all_first (IsFresh found.cells) new (keys_of own t) fresh)
 
--- So it commits, in a day of the calls before it, its own, and those after it.
-pub alone_in : (P : Chooses) → Meaning P → (cells : Cells) (rooms : Rooms) (calls : List Call) → AloneIn P cells rooms calls
-alone_in P means cells rooms calls earlier own rest t here none begun only fresh decides =
-    let before : Day = day_after P (new_day cells rooms) earlier in
-    let known : Known before.model = known_day P (new_day cells rooms) earlier (λ n a. (tt, tt, tt, tt)) in
-    let lives : LivePending before.model.rows before.history =
-    live_day P (new_day cells rooms) earlier (λ u j r e l. clash cc) in
-    let start = begun_solo P before.model before.history t known lives none begun in
-    decide_commits P t before.model.cells (day_after P (next P before (call.Begin t)) own).model
-    (solo_day P means t before.model.cells (next P before (call.Begin t)) own start only fresh) decides
+  -- So its decide commits.
+  after_decide : (decided : Response) (own : History) (m : Model)
+      → IsDay P first rooms ((Decide t, decided) ∷ own ++ (Begin t, begun) ∷ earlier) m
+      → AllByRecursion (λ e. caller e.0 ≡ t) own → AllByRecursion (IsFresh found.cells) (keys_of own t)
+      → is_accepted decided ≡ true → Commits decided
+  after_decide decided own m (w, i, p) only fresh =
+      subst (λ (x : Model × Response). is_accepted x.1 ≡ true → Commits x.1) (sym p)
+      (decide_commits P t found.cells w (after_calls own w i only fresh))
 
--- On any day, whatever is called after it.
-pub alone : Alone
-alone P means cells rooms earlier t own =
-    alone_in P means cells rooms (earlier ++ call.Begin t ∷ own ++ call.Decide t ∷ []) earlier own [] t refl
+pub alone : (P : Chooses) → Meaning P → (first : Cells) (rooms : Rooms) (h : History) (m : Model) → IsDay P first rooms h m
+    → Alone P first rooms h
+alone P means first rooms h m day t later decided own begun earlier split a found at fresh =
+    let whole = split ∙ append_assoc later ((Decide t, decided) ∷ own) ((Begin t, begun) ∷ earlier) in
+    let front = earlier_day P first rooms later ((Decide t, decided) ∷ own ++ (Begin t, begun) ∷ earlier) m
+    (subst (λ x. IsDay P first rooms x m) whole day) in
+    after_decide P means first rooms t earlier begun found at a.quiet a.begins decided own front.0 front.1 a.only fresh a.decides

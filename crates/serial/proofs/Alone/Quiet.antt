@@ -1,16 +1,15 @@
 -- A validation that no note concerns: it looks at the transaction's own reads and writes, and at nothing else.
---   Unnamed t n                           the note n names another two
---   no_ceilings, no_befores, no_afters    nothing bounds it from above, and no row stands beside it
---   floors_below, raised_most             what it has to lie above is below TOP, so its lower bound is a stamp
---   any_none                              no line passes a test that each line fails
-use Rattle.std.proofs.Common.{◌≡◌, ℕ, ◌<◌, Bool, true, false, cond, ◌&&◌, eqb, List, [], ◌∷◌, map, ℤ, pos, ◌≤ℤ◌, ◌<ℤ◌, Some, None, filter, Option, sym, refl}
+--   Unnamed t n                          the note n names another two
+--   no_ceilings, no_befores, no_afters   nothing bounds it from above, and no row stands beside it
+--   floors_below, raised_most            what it has to lie above is below TOP, so its lower bound is a stamp
+use Rattle.std.proofs.Common.{◌≡◌, ℕ, ◌<◌, Bool, true, false, cond, ◌&&◌, eqb, List, [], ◌∷◌, map, ℤ, pos, ◌≤ℤ◌, ◌<ℤ◌, Some, None, Option, sym, refl}
 use Rattle.std.proofs.Common.{ap, ◌∙◌, subst, arith}
 use Rattle.std.proofs.ByRecursion.{All-append}
 use Rattle.std.proofs.lemmas.Int.{ints, clamps}
-use Rattle.std.proofs.lemmas.Bool.{and_left, and_right, and_parts, eqb-true, or_from}
+use Rattle.std.proofs.lemmas.Bool.{and_left, and_right, and_parts, eqb-true}
 use Rattle.std.specs.List.{flat_map, AllByRecursion}
 use Rattle.store.specs.declared.cell.Cell.{Cell}
-use Rattle.wire.specs.Keys.{ground_of}
+use Rattle.base.specs.Keys.{ground_of}
 use Rattle.lines.proofs.Notes.{uninvolved}
 use Rattle.lines.specs.Locks.{row_of}
 use Rattle.lines.specs.declared.access.ReadLine.{ReadLine}
@@ -18,31 +17,11 @@ use Rattle.lines.specs.declared.access.WriteLine.{WriteLine}
 use Rattle.lines.specs.declared.note.Effect.{Effect}
 use Rattle.lines.specs.declared.note.Note.{Note}
 use Rattle.lines.specs.declared.row.Row.{Row}
-use Rattle.register.specs.Checks.{any}
-use Rattle.register.specs.Model.{Model}
-use Rattle.register.specs.Among.{raise, raised_above, other_party, effect_with, effect_floor, effect_ceiling, is_before, is_after}
-use Rattle.register.specs.Validation.{of_here, read_floor, stamps_of, write_floor, note_effect, floors, ceilings, joins, befores, afters}
-use Rattle.serial.specs.Alone.{Fresh, fresh_cell}
-
--- A list of which each line gives nothing.
-pub joined_none : {X Y : Type 0} (Q : X → Type 0) (f : X → List Y) → ((x : X) → Q x → f x ≡ []) → (xs : List X) → AllByRecursion Q xs → flat_map f xs ≡ []
-joined_none Q f e [] a = refl
-joined_none Q f e (x ∷ xs) a = rw (e x a.0) (joined_none Q f e xs a.1)
-
--- What holds of all that each line gives holds of all that they give together.
-pub all_joined : {X Y : Type 0} (R : X → Type 0) (Q : Y → Type 0) (f : X → List Y) → ((x : X) → R x → AllByRecursion Q (f x)) → (xs : List X)
-    → AllByRecursion R xs → AllByRecursion Q (flat_map f xs)
-all_joined R Q f e [] a = tt
-all_joined R Q f e (x ∷ xs) a = All-append Q (f x) _ (e x a.0) (all_joined R Q f e xs a.1)
-
--- A test that every line fails.
-pub any_none : {X : Type 0} (Q : X → Type 0) (p : X → Bool) → ((x : X) → Q x → p x ≡ false) → (xs : List X) → AllByRecursion Q xs → any p xs ≡ false
-any_none Q p e [] a = refl
-any_none Q p e (x ∷ xs) a = or_from (p x) _ (e x a.0) (any_none Q p e xs a.1)
-
-kept_none : {X : Type 0} (p : X → Bool) → ((x : X) → p x ≡ false) → (xs : List X) → filter p xs ≡ []
-kept_none p e [] = refl
-kept_none p e (x ∷ xs) = rw (e x) (kept_none p e xs)
+use Rattle.protocol.specs.Model.{Model}
+use Rattle.protocol.specs.Among.{raise, raised_above, other_party, effect_with, effect_floor, effect_ceiling, is_before, is_after}
+use Rattle.protocol.specs.Validation.{of_here, read_floor, stamps_of, write_floor, note_effect, floors, ceilings, joins, befores, afters}
+use Rattle.serial.specs.Alone.{IsFreshCell, IsFresh}
+use Rattle.serial.proofs.Lines.All.{all_joined, any_none, joined_none, kept_none}
 
 -- A note that names another two.
 abbrev pub Unnamed : ℕ → Note → Type 0
@@ -85,7 +64,7 @@ module _ (m : Model) (t g : ℕ) where
 
     -- Every stamp that a validation has to lie above is below TOP.
     pub floors_below : AllByRecursion (λ x. x.transaction ≡ t → x.seen.number < 268435455) m.reads
-        → AllByRecursion (λ x. x.transaction ≡ t → Fresh m.cells x.key) m.writes → AllByRecursion Below (floors m t g)
+        → AllByRecursion (λ x. x.transaction ≡ t → IsFresh m.cells x.key) m.writes → AllByRecursion Below (floors m t g)
     floors_below rs ws =
         All-append Below (flat_map (read_floor t g) m.reads) _
         (all_joined _ Below (read_floor t g) (λ x q. of_read x q (of_here t g x.transaction x.key) refl) m.reads rs)
@@ -100,11 +79,11 @@ module _ (m : Model) (t g : ℕ) where
             (omega (arith, ints), tt)
         of_read x q false s = tt
 
-        of_cell : (o : Option Cell) → fresh_cell o → AllByRecursion Below (stamps_of o)
+        of_cell : (o : Option Cell) → IsFreshCell o → AllByRecursion Below (stamps_of o)
         of_cell None f = tt
         of_cell (Some c) f = let a = f.0 in let b = f.1 in (omega (arith, ints), (omega (arith, ints), tt))
 
-        of_write : (x : WriteLine) → (x.transaction ≡ t → Fresh m.cells x.key) → (b : Bool)
+        of_write : (x : WriteLine) → (x.transaction ≡ t → IsFresh m.cells x.key) → (b : Bool)
             → of_here t g x.transaction x.key ≡ b → AllByRecursion Below (cond b (stamps_of (m.cells x.key)) [])
         of_write x q true s = of_cell (m.cells x.key) (q (eqb-true _ _ (and_parts (eqb x.transaction t) _ s).0))
         of_write x q false s = tt

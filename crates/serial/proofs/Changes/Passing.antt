@@ -1,42 +1,27 @@
 -- A validation that passes keeps the invariant, if its range lies where reads, writes and notes say.
---   Fits      the range lies where they say
---   cell_there  a key that is prewritten has a cell
---   passes    the invariant is kept
+--   Fits         the range lies where they say
+--   cell_there   a key that is prewritten has a cell
+--   passes       the invariant is kept
 use Rattle.std.proofs.Common.{◌≡◌, ℕ, Bool, false, eqb, ◌⊎◌, ℤ, pos, ◌≤ℤ◌, ◌<ℤ◌, Some, None, Option, sym, refl, subst, inl, inr, arith}
 use Rattle.std.proofs.lemmas.Int.{ints}
 use Rattle.std.proofs.lemmas.Bool.{false≢true}
 use Rattle.store.specs.Stores.{Cells}
 use Rattle.store.specs.declared.cell.Cell.{Cell}
-use Rattle.wire.specs.Keys.{ground_of}
+use Rattle.base.specs.Keys.{ground_of}
 use Rattle.serial.proofs.Ledger.Fates.{Fate, Away, Running, Past, Gone, Unsettled}
-use Rattle.serial.proofs.Changes.Invariant.{
-  View,
-  UpToWrite,
-  UpToRead,
-  Over,
-  Noted,
-  Tied,
-  from_running,
-  from_past,
-  apart_running,
-  apart_past,
-  Ordered,
-  Distanced,
-  Reader,
-  Writer,
-  kept_cell,
-  Sound,
-}
 use Rattle.serial.proofs.Changes.Steady.{noted_more, tied_more}
+use Rattle.serial.proofs.Changes.OneTurn.{own_standing}
 use Rattle.serial.proofs.Changes.Turning.{turned}
-use Rattle.serial.proofs.Changes.OnlyFate.{Only, grown_same, origin_same, cell_same}
+use Rattle.serial.proofs.Changes.OneFate.{OneFate, fate_turn}
+use Rattle.serial.proofs.Invariant.{View, CellKept, Sound}
+use Rattle.serial.proofs.Standing.{UpToWrite, UpToRead, Over, Noted, Tied, RunningReader, PastReader, RunningWriter, PastWriter, Ordered}
 
 -- A key that was written has a cell.
 pub cell_there : (first : Cells) (V : View) → Sound first V → (t k : ℕ) (x : ℤ) → V.put t k ≡ Some x → (c : Cell) × (V.cells k ≡ Some c)
-cell_there first V S t k x p = let f = S.has t k x p in go f.0 (V.cells k) refl (subst (λ o. kept_cell first V k o (V.cells k)) f.1 (S.cell k))
+cell_there first V S t k x p = let f = S.has t k x p in go f.0 (V.cells k) refl (subst (λ o. CellKept first V k o (V.cells k)) f.1 (S.cell k))
   where
-    go : (f : Cell) (o : Option Cell) → V.cells k ≡ o → kept_cell first V k (Some f) (V.cells k) → (c : Cell) × (V.cells k ≡ Some c)
-    go f None e h = absurd (subst (kept_cell first V k (Some f)) e h)
+    go : (f : Cell) (o : Option Cell) → V.cells k ≡ o → CellKept first V k (Some f) (V.cells k) → (c : Cell) × (V.cells k ≡ Some c)
+    go f None e h = absurd (subst (CellKept first V k (Some f)) e h)
     go f (Some c) e h = (c, e)
 
 -- The range from l to u lies above what t saw and above the stamps of the cells that it writes, and keeps to the notes.
@@ -49,7 +34,7 @@ pub record Fits (V : View) (t g : ℕ) (l u : ℤ) : Type 0 where
   pub apart : (a : ℕ) (b : Bool) (l₁ u₁ : ℤ) → eqb t a ≡ false → V.fates a g ≡ Past b l₁ u₁ → Tied V.notes g t a
       → (u <ℤ l₁) ⊎ (u₁ <ℤ l)
 
-module _ (first : Cells) (V W : View) (t g : ℕ) (S : Sound first V) (O : Only V W t g) (l u : ℤ)
+module _ (first : Cells) (V W : View) (t g : ℕ) (S : Sound first V) (O : OneFate V W t g) (l u : ℤ)
     (was : V.fates t g ≡ Running) (is : W.fates t g ≡ Past false l u) (F : Fits V t g l u) where
   -- Above what the cell of a key that it writes has reached.
   over_read : (k : ℕ) (x : ℤ) → ground_of k ≡ g → V.put t k ≡ Some x → (y : ℤ) → UpToRead y (V.cells k) → y <ℤ l
@@ -71,17 +56,17 @@ module _ (first : Cells) (V W : View) (t g : ℕ) (S : Sound first V) (O : Only 
   over_first : (k : ℕ) (x : ℤ) → ground_of k ≡ g → V.put t k ≡ Some x → Over (first k) l
   over_first k x i p =
       let c = cell_there first V S t k x p in
-      go c.0 (first k) (F.writes k x c.0 i p c.1).0 (subst (kept_cell first V k (first k)) c.1 (S.cell k))
+      go c.0 (first k) (F.writes k x c.0 i p c.1).0 (subst (CellKept first V k (first k)) c.1 (S.cell k))
     where
-      go : (c : Cell) (o : Option Cell) → pos c.write.number <ℤ l → kept_cell first V k o (Some c) → Over o l
+      go : (c : Cell) (o : Option Cell) → pos c.write.number <ℤ l → CellKept first V k o (Some c) → Over o l
       go c None d h = tt
       go c (Some f) d h = let e = h.0 in omega (arith, ints)
 
   -- As a reader.
-  reading : (a k : ℕ) (x : ℤ × ℕ) → eqb t a ≡ false → (f : Fate) → V.fates a g ≡ f → from_running (pos x.1) (Noted V.notes g t a) f
-      → from_past (pos x.1) (Noted W.notes g t a) (W.cells k) false u f
+  reading : (a k : ℕ) (x : ℤ × ℕ) → eqb t a ≡ false → (f : Fate) → V.fates a g ≡ f → RunningReader (pos x.1) (Noted V.notes g t a) f
+      → PastReader (pos x.1) (Noted W.notes g t a) (W.cells k) false u f
   reading a k x n Away e o = tt
-  reading a k x n Running e o = inl (noted_more V.notes W.notes O.notes g t a o)
+  reading a k x n Running e o = inl (noted_more V.notes W.notes O.stays.notes g t a o)
   reading a k x n (Past b l₁ u₁) e (inl o) = inl o
   reading a k x n (Past b l₁ u₁) e (inr o) = inr (F.later a b l₁ u₁ n e o)
   reading a k x n Gone e o = tt
@@ -91,16 +76,16 @@ module _ (first : Cells) (V W : View) (t g : ℕ) (S : Sound first V) (O : Only 
       → Ordered (pos x.1) (Noted V.notes g a t) (V.cells k) f Running
       → Ordered (pos x.1) (Noted W.notes g a t) (W.cells k) f (Past false l u)
   writing a k x y i p n Away e o = tt
-  writing a k x y i p n Running e o = inr (noted_more V.notes W.notes O.notes g a t o)
+  writing a k x y i p n Running e o = inr (noted_more V.notes W.notes O.stays.notes g a t o)
   writing a k x y i p n (Past b l₁ u₁) e (inl o) = inr (F.earlier a b l₁ u₁ n e o)
   writing a k x y i p n (Past b l₁ u₁) e (inr o) = inr (over_read k y i p u₁ o.1)
   writing a k x y i p n Gone e o = tt
 
   -- Beside another writer.
   beside_writer : (a k : ℕ) (x : ℤ) → ground_of k ≡ g → V.put t k ≡ Some x → eqb t a ≡ false → (f : Fate) → V.fates a g ≡ f
-      → apart_running (Tied V.notes g t a) (V.cells k) f → apart_past (Tied W.notes g t a) (W.cells k) false l u f
+      → RunningWriter (Tied V.notes g t a) (V.cells k) f → PastWriter (Tied W.notes g t a) (W.cells k) false l u f
   beside_writer a k x i p n Away e o = tt
-  beside_writer a k x i p n Running e o = inl (tied_more V.notes W.notes O.notes g t a o)
+  beside_writer a k x i p n Running e o = inl (tied_more V.notes W.notes O.stays.notes g t a o)
   beside_writer a k x i p n (Past b l₁ u₁) e (inl o) = F.apart a b l₁ u₁ n e o
   beside_writer a k x i p n (Past b l₁ u₁) e (inr o) = inr (over_write k x i p u₁ o.1)
   beside_writer a k x i p n Gone e o = tt
@@ -110,26 +95,6 @@ module _ (first : Cells) (V W : View) (t g : ℕ) (S : Sound first V) (O : Only 
 
   pub passes : Sound first W
   passes =
-      turned first V W t g S (record {
-        others = O.others;
-        seen = O.seen;
-        put = O.put;
-        notes = O.notes;
-        grown = grown_same first V W t g S O still;
-        cell = cell_same first V W t g S O still;
-        origin = origin_same first V W t g S O still;
-        reads = λ k x i s. subst (Reader x.1 (W.cells k)) (sym is) (F.reads k x i s, λ e. absurd (false≢true e));
-        writes = λ k x i s. subst (Writer (first k) (W.cells k)) (sym is) (over_first k x i s, λ e. absurd (false≢true e));
-        as_reader = λ a k x y i n s p o.
-            subst (λ f. Ordered (pos x.1) (Noted W.notes g t a) (W.cells k) f (V.fates a g)) (sym is)
-            (reading a k x n (V.fates a g) refl
-            (subst (λ f. Ordered (pos x.1) (Noted V.notes g t a) (V.cells k) f (V.fates a g)) was o));
-        as_writer = λ a k x y i n s p o.
-            subst (Ordered (pos x.1) (Noted W.notes g a t) (W.cells k) (V.fates a g)) (sym is)
-            (writing a k x y i p n (V.fates a g) refl
-            (subst (Ordered (pos x.1) (Noted V.notes g a t) (V.cells k) (V.fates a g)) was o));
-        beside = λ a k x y i n s p o.
-            subst (λ f. Distanced (Tied W.notes g t a) (W.cells k) f (V.fates a g)) (sym is)
-            (beside_writer a k x i s n (V.fates a g) refl
-            (subst (λ f. Distanced (Tied V.notes g t a) (V.cells k) f (V.fates a g)) was o));
-      })
+      turned first V W t g S (fate_turn first V W t g S O still
+      (own_standing first V W t g Running (Past false l u) was is F.reads over_first
+      (λ k x i s e. absurd (false≢true e)) (λ k x i s e. absurd (false≢true e)) reading writing beside_writer))

@@ -2,34 +2,19 @@
 --   ValueFrom   the value of a cell is the one it had, or what the settled transaction put there
 --   Settles     what a settlement changes
 --   settles     the invariant is kept
-use Rattle.std.proofs.Common.{◌≡◌, ℕ, true, false, ◌&&◌, eqb, ◌⊎◌, ℤ, pos, ◌≤ℤ◌, Some, None, Option, sym, refl, ◌∙◌, subst, inl, inr, arith}
+use Rattle.std.proofs.Common.{◌≡◌, ℕ, true, false, eqb, ◌⊎◌, ℤ, pos, ◌≤ℤ◌, ◌<ℤ◌, Some, None, Option, sym, refl, ◌∙◌, subst, inl, inr, arith}
 use Rattle.std.proofs.lemmas.Int.{ints}
 use Rattle.std.proofs.lemmas.Bool.{false≢true}
 use Rattle.store.specs.Stores.{Cells}
 use Rattle.store.specs.declared.cell.Cell.{Cell}
-use Rattle.wire.specs.Keys.{ground_of}
+use Rattle.base.specs.Keys.{ground_of}
 use Rattle.serial.proofs.Ledger.Fates.{Fate, Away, Running, Past, Gone, Unsettled}
-use Rattle.serial.proofs.Changes.Invariant.{
-  View,
-  UpToWrite,
-  UpToRead,
-  Over,
-  Noted,
-  Tied,
-  from_past,
-  apart_past,
-  Ordered,
-  Distanced,
-  Reader,
-  Writer,
-  Origin,
-  kept_cell,
-  KeptCell,
-  Sound,
-}
-use Rattle.serial.proofs.Changes.Steady.{Grown, More, noted_more, tied_more}
+use Rattle.serial.proofs.Changes.Steady.{Grown, noted_more, tied_more}
+use Rattle.serial.proofs.Changes.OneTurn.{Stays, own_standing}
 use Rattle.serial.proofs.Changes.Turning.{turned}
-use Rattle.serial.proofs.Changes.OnlyFate.{origin_kept}
+use Rattle.serial.proofs.Changes.OneFate.{origin_kept}
+use Rattle.serial.proofs.Invariant.{View, Origin, CellKept, CellKeptAt, Sound}
+use Rattle.serial.proofs.Standing.{UpToWrite, UpToRead, Over, Noted, Tied, PastReader, PastWriter, Ordered, Reader, Writer}
 
 -- A cell keeps its value and write stamp, or has those of the transaction.
 abbrev pub ValueFrom : View → ℕ → ℕ → ℕ → ℕ → Cell → Cell → Type 0
@@ -39,10 +24,7 @@ ValueFrom V t g c k a b =
 
 -- From V to W the transaction t is settled at g with the stamp c.
 pub record Settles (V W : View) (t g c : ℕ) : Type 0 where
-  pub others : (u j : ℕ) → (eqb t u && eqb g j) ≡ false → W.fates u j ≡ V.fates u j
-  pub seen : (u k : ℕ) → W.seen u k ≡ V.seen u k
-  pub put : (u k : ℕ) → W.put u k ≡ V.put u k
-  pub notes : More V.notes W.notes
+  pub stays : Stays V W t g
   pub grown : (k : ℕ) → Grown (V.cells k) (W.cells k)
   pub read_up : (k : ℕ) (x : ℤ × ℕ) → ground_of k ≡ g → V.seen t k ≡ Some x → UpToRead (pos c) (W.cells k)
   pub write_up : (k : ℕ) (x : ℤ) → ground_of k ≡ g → V.put t k ≡ Some x → UpToWrite (pos c) (W.cells k)
@@ -54,7 +36,7 @@ module _ (first : Cells) (V W : View) (t g c : ℕ) (S : Sound first V) (T : Set
   still = subst Unsettled (sym was) tt
 
   origin_after : (k : ℕ) (v : ℤ) (w : ℕ) → Origin first V k v w → Origin first W k v w
-  origin_after = origin_kept first V W t g T.others T.put still
+  origin_after = origin_kept first V W t g T.stays still
 
   value_after : (k : ℕ) (a b : Cell) → Origin first V k a.value a.write.number → ValueFrom V t g c k a b
       → Origin first W k b.value b.write.number
@@ -65,13 +47,13 @@ module _ (first : Cells) (V W : View) (t g c : ℕ) (S : Sound first V) (T : Set
       inr (
         t,
         subst (λ w. W.fates t (ground_of k) ≡ Past true (pos w) (pos w)) (sym e.2) (subst (λ j. W.fates t j ≡ Past true (pos c) (pos c)) (sym e.0) is),
-        T.put t k ∙ e.1,
+        T.stays.put t k ∙ e.1,
       )
 
-  cell_after : (k : ℕ) → KeptCell first W k
+  cell_after : (k : ℕ) → CellKeptAt first W k
   cell_after k = go (first k) (V.cells k) (W.cells k) refl refl (T.grown k) (S.cell k)
     where
-      go : (f a b : Option Cell) → V.cells k ≡ a → W.cells k ≡ b → Grown a b → kept_cell first V k f a → kept_cell first W k f b
+      go : (f a b : Option Cell) → V.cells k ≡ a → W.cells k ≡ b → Grown a b → CellKept first V k f a → CellKept first W k f b
       go None None None p q r h = tt
       go None None (Some b) p q r h = absurd r
       go None (Some a) b p q r h = absurd h
@@ -84,66 +66,50 @@ module _ (first : Cells) (V W : View) (t g c : ℕ) (S : Sound first V) (T : Set
   over_stamp None h = tt
   over_stamp (Some f) h = omega (arith, ints)
 
-  reading : (a k : ℕ) (x : ℤ × ℕ) (f : Fate) → from_past (pos x.1) (Noted V.notes g t a) (V.cells k) false u f
-      → from_past (pos x.1) (Noted W.notes g t a) (W.cells k) true (pos c) f
-  reading a k x Away o = tt
-  reading a k x Running (inl o) = inl (noted_more V.notes W.notes T.notes g t a o)
-  reading a k x Running (inr o) = absurd (false≢true o.0)
-  reading a k x (Past b l₁ u₁) (inl o) = inl o
-  reading a k x (Past b l₁ u₁) (inr o) = inr (omega (arith, ints))
-  reading a k x Gone o = tt
+  reading : (a k : ℕ) (x : ℤ × ℕ) → eqb t a ≡ false → (f : Fate) → V.fates a g ≡ f
+      → PastReader (pos x.1) (Noted V.notes g t a) (V.cells k) false u f
+      → PastReader (pos x.1) (Noted W.notes g t a) (W.cells k) true (pos c) f
+  reading a k x n Away e o = tt
+  reading a k x n Running e (inl o) = inl (noted_more V.notes W.notes T.stays.notes g t a o)
+  reading a k x n Running e (inr o) = absurd (false≢true o.0)
+  reading a k x n (Past b l₁ u₁) e (inl o) = inl o
+  reading a k x n (Past b l₁ u₁) e (inr o) = inr (omega (arith, ints))
+  reading a k x n Gone e o = tt
 
-  writing : (a k : ℕ) (x : ℤ × ℕ) (f : Fate) → Ordered (pos x.1) (Noted V.notes g a t) (V.cells k) f (Past false l u)
+  writing : (a k : ℕ) (x : ℤ × ℕ) (y : ℤ) → ground_of k ≡ g → V.put t k ≡ Some y → eqb t a ≡ false → (f : Fate) → V.fates a g ≡ f
+      → Ordered (pos x.1) (Noted V.notes g a t) (V.cells k) f (Past false l u)
       → Ordered (pos x.1) (Noted W.notes g a t) (W.cells k) f (Past true (pos c) (pos c))
-  writing a k x Away o = tt
-  writing a k x Running (inl o) = inl (omega (arith, ints))
-  writing a k x Running (inr o) = inr (noted_more V.notes W.notes T.notes g a t o)
-  writing a k x (Past b l₁ u₁) (inl o) = inl (omega (arith, ints))
-  writing a k x (Past b l₁ u₁) (inr o) = inr (omega (arith, ints))
-  writing a k x Gone o = tt
+  writing a k x y i p n Away e o = tt
+  writing a k x y i p n Running e (inl o) = inl (omega (arith, ints))
+  writing a k x y i p n Running e (inr o) = inr (noted_more V.notes W.notes T.stays.notes g a t o)
+  writing a k x y i p n (Past b l₁ u₁) e (inl o) = inl (omega (arith, ints))
+  writing a k x y i p n (Past b l₁ u₁) e (inr o) = inr (omega (arith, ints))
+  writing a k x y i p n Gone e o = tt
 
-  beside_writer : (a k : ℕ) (f : Fate) → apart_past (Tied V.notes g t a) (V.cells k) false l u f
-      → apart_past (Tied W.notes g t a) (W.cells k) true (pos c) (pos c) f
-  beside_writer a k Away o = tt
-  beside_writer a k Running (inl o) = inl (tied_more V.notes W.notes T.notes g t a o)
-  beside_writer a k Running (inr o) = absurd (false≢true o.0)
-  beside_writer a k (Past b l₁ u₁) (inl o) = inl (omega (arith, ints))
-  beside_writer a k (Past b l₁ u₁) (inr o) = inr (omega (arith, ints))
-  beside_writer a k Gone o = tt
+  beside_writer : (a k : ℕ) (x : ℤ) → ground_of k ≡ g → V.put t k ≡ Some x → eqb t a ≡ false → (f : Fate) → V.fates a g ≡ f
+      → PastWriter (Tied V.notes g t a) (V.cells k) false l u f → PastWriter (Tied W.notes g t a) (W.cells k) true (pos c) (pos c) f
+  beside_writer a k x i p n Away e o = tt
+  beside_writer a k x i p n Running e (inl o) = inl (tied_more V.notes W.notes T.stays.notes g t a o)
+  beside_writer a k x i p n Running e (inr o) = absurd (false≢true o.0)
+  beside_writer a k x i p n (Past b l₁ u₁) e (inl o) = inl (omega (arith, ints))
+  beside_writer a k x i p n (Past b l₁ u₁) e (inr o) = inr (omega (arith, ints))
+  beside_writer a k x i p n Gone e o = tt
 
-  reader_was : (k : ℕ) (x : ℤ × ℕ) → ground_of k ≡ g → V.seen t k ≡ Some x → Reader x.1 (V.cells k) (Past false l u)
-  reader_was k x i s =
-      subst (Reader x.1 (V.cells k)) was (subst (λ j. Reader x.1 (V.cells k) (V.fates t j)) i (S.reader t k x s))
+  reader_was : (k : ℕ) (x : ℤ × ℕ) → ground_of k ≡ g → V.seen t k ≡ Some x → pos x.1 <ℤ l
+  reader_was k x i s = subst (Reader x.1) was (subst (λ j. Reader x.1 (V.fates t j)) i (S.reader t k x s))
 
-  writer_was : (k : ℕ) (x : ℤ) → ground_of k ≡ g → V.put t k ≡ Some x → Writer (first k) (V.cells k) (Past false l u)
-  writer_was k x i s =
-      subst (Writer (first k) (V.cells k)) was (subst (λ j. Writer (first k) (V.cells k) (V.fates t j)) i (S.writer t k x s))
+  writer_was : (k : ℕ) (x : ℤ) → ground_of k ≡ g → V.put t k ≡ Some x → Over (first k) l
+  writer_was k x i s = subst (Writer (first k)) was (subst (λ j. Writer (first k) (V.fates t j)) i (S.writer t k x s))
 
   pub settles : Sound first W
   settles =
       turned first V W t g S (record {
-        others = T.others;
-        seen = T.seen;
-        put = T.put;
-        notes = T.notes;
+        stays = T.stays;
         grown = T.grown;
         cell = cell_after;
         origin = origin_after;
-        reads = λ k x i s.
-            subst (Reader x.1 (W.cells k)) (sym is)
-            (let h = (reader_was k x i s).0 in (omega (arith, ints), λ _. T.read_up k x i s));
-        writes = λ k x i s.
-            subst (Writer (first k) (W.cells k)) (sym is) (over_stamp (first k) (writer_was k x i s).0, λ _. T.write_up k x i s);
-        as_reader = λ a k x y i n s p o.
-            subst (λ f. Ordered (pos x.1) (Noted W.notes g t a) (W.cells k) f (V.fates a g)) (sym is)
-            (reading a k x (V.fates a g)
-            (subst (λ f. Ordered (pos x.1) (Noted V.notes g t a) (V.cells k) f (V.fates a g)) was o));
-        as_writer = λ a k x y i n s p o.
-            subst (Ordered (pos x.1) (Noted W.notes g a t) (W.cells k) (V.fates a g)) (sym is)
-            (writing a k x (V.fates a g)
-            (subst (Ordered (pos x.1) (Noted V.notes g a t) (V.cells k) (V.fates a g)) was o));
-        beside = λ a k x y i n s p o.
-            subst (λ f. Distanced (Tied W.notes g t a) (W.cells k) f (V.fates a g)) (sym is)
-            (beside_writer a k (V.fates a g)
-            (subst (λ f. Distanced (Tied V.notes g t a) (V.cells k) f (V.fates a g)) was o));
+        own =
+            own_standing first V W t g (Past false l u) (Past true (pos c) (pos c)) was is
+            (λ k x i s. let h = reader_was k x i s in omega (arith, ints)) (λ k x i s. over_stamp (first k) (writer_was k x i s))
+            (λ k x i s _. T.read_up k x i s) (λ k x i s _. T.write_up k x i s) reading writing beside_writer;
       })

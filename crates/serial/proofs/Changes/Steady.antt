@@ -1,16 +1,16 @@
 -- What stands between two transactions lasts while notes stay and a cell's stamps do not sink.
---   Grown, More            a cell whose stamps did not sink; notes, and maybe more
---   noted_more, tied_more  a note that stands still does; tied_turned: it ties two writers either way round
---   ordered_grown          a reader and a writer stand to each other as they did
---   distanced_grown        so do two writers; distanced_turned: either way round
---   reader_grown, writer_grown   and so do one reader and one writer to the cell
+--   Grown, MoreNotes                         a cell whose stamps did not sink; notes, and maybe more
+--   noted_more, tied_more                    a note that stands still does; tied_turned: it ties two writers either way round
+--   ordered_grown                            a reader and a writer stand to each other as they did
+--   distanced_grown                          so do two writers; distanced_turned: either way round
+--   write_grown, read_grown, reached_grown   what a cell's stamps have reached they still have
 use Rattle.std.proofs.Common.{◌≡◌, ℕ, ◌≤◌, ◌⊎◌, List, ℤ, Some, None, Option, inl, inr, ⊎_elim, arith}
 use Rattle.std.proofs.lemmas.Int.{ints}
 use Rattle.store.specs.declared.cell.Cell.{Cell}
 use Rattle.lines.specs.declared.note.Note.{Note}
 use Rattle.serial.proofs.Ledger.Fates.{Fate, Away, Running, Past, Gone}
-use Rattle.serial.proofs.Changes.Invariant.{UpToWrite, UpToRead, Noted, Parties, Tied, Ordered, Distanced, Reader, Writer}
 use Rattle.serial.proofs.Lines.Member.{In}
+use Rattle.serial.proofs.Standing.{UpToWrite, UpToRead, Noted, Parties, Tied, Ordered, Distanced, Reached}
 
 -- A cell that is there stays there, and its stamps do not sink.
 abbrev pub Grown : Option Cell → Option Cell → Type 0
@@ -23,26 +23,26 @@ pub grown_self : (c : Option Cell) → Grown c c
 grown_self None = tt
 grown_self (Some c) = (omega arith, omega arith)
 
-write_grown : (u : ℤ) (c d : Option Cell) → Grown c d → UpToWrite u c → UpToWrite u d
+pub write_grown : (u : ℤ) (c d : Option Cell) → Grown c d → UpToWrite u c → UpToWrite u d
 write_grown u None None g h = tt
 write_grown u None (Some d) g h = absurd g
 write_grown u (Some c) None g h = tt
 write_grown u (Some c) (Some d) g h = let i = g.0 in omega (arith, ints)
 
-read_grown : (u : ℤ) (c d : Option Cell) → Grown c d → UpToRead u c → UpToRead u d
+pub read_grown : (u : ℤ) (c d : Option Cell) → Grown c d → UpToRead u c → UpToRead u d
 read_grown u None None g h = tt
 read_grown u None (Some d) g h = absurd g
 read_grown u (Some c) None g h = tt
 read_grown u (Some c) (Some d) g h = let i = g.1 in omega (arith, ints)
 
 -- Notes that all stay.
-abbrev pub More : List Note → List Note → Type 0
-More ns ms = (n : Note) → In n ns → In n ms
+abbrev pub MoreNotes : List Note → List Note → Type 0
+MoreNotes ns ms = (n : Note) → In n ns → In n ms
 
-pub noted_more : (ns ms : List Note) → More ns ms → (g t u : ℕ) → Noted ns g t u → Noted ms g t u
+pub noted_more : (ns ms : List Note) → MoreNotes ns ms → (g t u : ℕ) → Noted ns g t u → Noted ms g t u
 noted_more ns ms s g t u n = (n.0, s n.0 n.1, n.2, n.3, n.4, n.5)
 
-pub tied_more : (ns ms : List Note) → More ns ms → (g t u : ℕ) → Tied ns g t u → Tied ms g t u
+pub tied_more : (ns ms : List Note) → MoreNotes ns ms → (g t u : ℕ) → Tied ns g t u → Tied ms g t u
 tied_more ns ms s g t u n = (n.0, s n.0 n.1, n.2, n.3)
 
 -- A note names its two parties either way round.
@@ -103,14 +103,10 @@ distanced_turned N M s c Gone Running o = tt
 distanced_turned N M s c Gone (Past b l u) o = tt
 distanced_turned N M s c Gone Gone o = tt
 
-pub reader_grown : (w : ℕ) (c d : Option Cell) → Grown c d → (f : Fate) → Reader w c f → Reader w d f
-reader_grown w c d g Away r = r
-reader_grown w c d g Running r = tt
-reader_grown w c d g (Past b l u) r = (r.0, λ s. read_grown u c d g (r.1 s))
-reader_grown w c d g Gone r = tt
-
-pub writer_grown : (o c d : Option Cell) → Grown c d → (f : Fate) → Writer o c f → Writer o d f
-writer_grown o c d g Away r = r
-writer_grown o c d g Running r = tt
-writer_grown o c d g (Past b l u) r = (r.0, λ s. write_grown u c d g (r.1 s))
-writer_grown o c d g Gone r = tt
+-- A stamp that has reached a settled transaction still has, where what it has reached lasts.
+pub reached_grown : (R : ℤ → Option Cell → Type 0) (c d : Option Cell) → ((u : ℤ) → R u c → R u d) → (f : Fate) → Reached R c f
+    → Reached R d f
+reached_grown R c d g Away r = tt
+reached_grown R c d g Running r = tt
+reached_grown R c d g (Past b l u) r = λ s. g u (r s)
+reached_grown R c d g Gone r = tt

@@ -1,14 +1,14 @@
 -- What the ledger says of a transaction: how far it has come at each ground, what it saw at each key, and its stamp.
---   fate h t g      how far t has come at the ground g
---   Unsettled, Live  a fate that is not settled with a stamp; one whose soft locks stand
---   seen h t k      the value and the stamp that the first accepted read of k by t was answered
---   stamp_of h t    the stamp at which t committed
+--   fate h t g        how far t has come at the ground g
+--   Unsettled, Live   a fate that is not settled with a stamp; one whose soft locks stand
+--   sight_of h t k    the value and the stamp that the first accepted read of k by t was answered
+--   stamp_of h t      the stamp at which t committed
+use Rattle.protocol.specs.Replies.{Response}
 use Rattle.std.proofs.Common.{ℕ, Bool, true, false, cond, ◌&&◌, eqb, List, [], ◌∷◌, ℤ, pos, Some, None, Option, Ok, Err}
-use Rattle.register.specs.declared.call.Call.{Call}
-use Rattle.register.specs.declared.call.Call.TheVariants.{Begin, Read, Prewrite, Validate, Decide, Withdraw, Settle}
-use Rattle.register.specs.Calls.{Response}
-use Rattle.register.specs.declared.call.Reply.TheVariants.{Done, Value, Range, Committed, Aborted}
-use Rattle.serial.specs.Ledger.{History, accepted, stamp_in, touches}
+use Rattle.protocol.specs.declared.call.Call.{Call}
+use Rattle.protocol.specs.declared.call.Call.TheVariants.{Begin, Read, Prewrite, Validate, Decide, Withdraw, Settle}
+use Rattle.protocol.specs.declared.call.Reply.TheVariants.{Done, Value, Range, Committed, Aborted}
+use Rattle.serial.specs.Ledger.{History, stamp_in, is_accepted, is_touch}
 
 -- How far a transaction has come at a ground. Past: its validation answered this range; or, once it is settled, its commit stamp is
 -- both bounds. Gone: its validation failed, or it was settled without a stamp.
@@ -55,60 +55,60 @@ stamp_of [] t = None
 stamp_of (e ∷ h) t = stamp_from t e.0 e.1 (stamp_of h t)
 
 -- What the first accepted read was answered.
-abbrev pub seen_or : Option (ℤ × ℕ) → Response → Option (ℤ × ℕ)
-seen_or (Some x) r = Some x
-seen_or None (Ok Done) = None
-seen_or None (Ok (Value v s)) = Some (v, s.number)
-seen_or None (Ok (Range l u)) = None
-seen_or None (Ok (Committed s)) = None
-seen_or None (Ok Aborted) = None
-seen_or None (Err e) = None
+abbrev pub sight_or : Option (ℤ × ℕ) → Response → Option (ℤ × ℕ)
+sight_or (Some x) r = Some x
+sight_or None (Ok Done) = None
+sight_or None (Ok (Value v s)) = Some (v, s.number)
+sight_or None (Ok (Range l u)) = None
+sight_or None (Ok (Committed s)) = None
+sight_or None (Ok Aborted) = None
+sight_or None (Err e) = None
 
 -- What one entry says that t saw at k.
-abbrev pub seen_in : ℕ → ℕ → Call → Response → Option (ℤ × ℕ) → Option (ℤ × ℕ)
-seen_in t k (Begin u) r before = before
-seen_in t k (Read u j) r before = cond (eqb u t && eqb j k) (seen_or before r) before
-seen_in t k (Prewrite u j v) r before = before
-seen_in t k (Validate u g) r before = before
-seen_in t k (Decide u) r before = before
-seen_in t k (Withdraw u) r before = before
-seen_in t k (Settle u g) r before = before
+abbrev pub sight_in : ℕ → ℕ → Call → Response → Option (ℤ × ℕ) → Option (ℤ × ℕ)
+sight_in t k (Begin u) r before = before
+sight_in t k (Read u j) r before = cond (eqb u t && eqb j k) (sight_or before r) before
+sight_in t k (Prewrite u j v) r before = before
+sight_in t k (Validate u g) r before = before
+sight_in t k (Decide u) r before = before
+sight_in t k (Withdraw u) r before = before
+sight_in t k (Settle u g) r before = before
 
 -- The value and the stamp that the first accepted read of k by t was answered.
-abbrev pub seen : History → ℕ → ℕ → Option (ℤ × ℕ)
-seen [] t k = None
-seen (e ∷ h) t k = seen_in t k e.0 e.1 (seen h t k)
+abbrev pub sight_of : History → ℕ → ℕ → Option (ℤ × ℕ)
+sight_of [] t k = None
+sight_of (e ∷ h) t k = sight_in t k e.0 e.1 (sight_of h t k)
 
 -- An accepted read or prewrite.
-abbrev pub begun : Fate → Fate
-begun Away = Running
-begun Running = Running
-begun (Past b l u) = Past b l u
-begun Gone = Gone
+abbrev pub fate_begun : Fate → Fate
+fate_begun Away = Running
+fate_begun Running = Running
+fate_begun (Past b l u) = Past b l u
+fate_begun Gone = Gone
 
 -- A validation.
-abbrev pub judged : Response → Fate → Fate
-judged (Ok Done) before = before
-judged (Ok (Value v s)) before = before
-judged (Ok (Range l u)) before = Past false l u
-judged (Ok (Committed s)) before = before
-judged (Ok Aborted) before = Gone
-judged (Err e) before = before
+abbrev pub fate_judged : Response → Fate → Fate
+fate_judged (Ok Done) before = before
+fate_judged (Ok (Value v s)) before = before
+fate_judged (Ok (Range l u)) before = Past false l u
+fate_judged (Ok (Committed s)) before = before
+fate_judged (Ok Aborted) before = Gone
+fate_judged (Err e) before = before
 
 -- A settlement of a transaction that committed at a stamp, or did not.
-abbrev pub settled_at : Option ℕ → Fate
-settled_at None = Gone
-settled_at (Some c) = Past true (pos c) (pos c)
+abbrev pub settled_fate : Option ℕ → Fate
+settled_fate None = Gone
+settled_fate (Some c) = Past true (pos c) (pos c)
 
 -- What one entry says of t at g, where t's stamp is as given.
 abbrev pub fate_in : ℕ → ℕ → Call → Response → Option ℕ → Fate → Fate
 fate_in t g (Begin u) r c before = before
-fate_in t g (Read u k) r c before = cond (touches t g (Read u k) r) (begun before) before
-fate_in t g (Prewrite u k v) r c before = cond (touches t g (Prewrite u k v) r) (begun before) before
-fate_in t g (Validate u j) r c before = cond (eqb u t && eqb j g) (judged r before) before
+fate_in t g (Read u k) r c before = cond (is_touch t g (Read u k) r) (fate_begun before) before
+fate_in t g (Prewrite u k v) r c before = cond (is_touch t g (Prewrite u k v) r) (fate_begun before) before
+fate_in t g (Validate u j) r c before = cond (eqb u t && eqb j g) (fate_judged r before) before
 fate_in t g (Decide u) r c before = before
 fate_in t g (Withdraw u) r c before = before
-fate_in t g (Settle u j) r c before = cond (eqb u t && (eqb j g && accepted r)) (settled_at c) before
+fate_in t g (Settle u j) r c before = cond (eqb u t && (eqb j g && is_accepted r)) (settled_fate c) before
 
 -- How far t has come at g.
 abbrev pub fate : History → ℕ → ℕ → Fate

@@ -1,5 +1,5 @@
 -- The ledger and the books say the same.
---   Linked h m      fates are by the rows, what was seen by the read lines, what was put by the write lines, stamps by the decisions
+--   Linked h m   fates are by the rows, what was seen by the read lines, what was put by the write lines, stamps by the decisions
 use Rattle.std.proofs.Common.{◌≡◌, ℕ, true, false, ℤ, Some, None, Option}
 use Rattle.std.specs.Option.{option_map}
 use Rattle.lines.specs.Locks.{row_of}
@@ -9,9 +9,9 @@ use Rattle.lines.specs.declared.row.State.TheVariants as state
 use Rattle.lines.specs.declared.transaction.Decision.{Decision}
 use Rattle.lines.specs.declared.transaction.Decision.TheVariants as decision
 use Rattle.lines.specs.declared.transaction.Transaction.{Transaction}
-use Rattle.register.specs.Model.{Model, read_of, write_of, transaction_of}
-use Rattle.serial.specs.Ledger.{History, last_prewritten}
-use Rattle.serial.proofs.Ledger.Fates.{Fate, Away, Running, Past, Gone, fate, seen, stamp_of}
+use Rattle.protocol.specs.Model.{Model, read_of, write_of, transaction_of}
+use Rattle.serial.specs.Ledger.{History, last_prewrite}
+use Rattle.serial.proofs.Ledger.Fates.{Fate, Away, Running, Past, Gone, fate, sight_of, stamp_of}
 
 -- The fate that a row in a state shows.
 abbrev pub fate_by : State → ℤ → ℤ → Fate
@@ -39,6 +39,6 @@ line_stamp (Some x) = decided_stamp x.decision
 -- The ledger and the books say the same.
 pub record Linked (h : History) (m : Model) : Type 0 where
   pub rows : (t g : ℕ) → fate h t g ≡ row_fate (row_of m.rows t g)
-  pub reads : (t k : ℕ) → seen h t k ≡ option_map (λ x. (x.value, x.seen.number)) (read_of m t k)
-  pub writes : (t k : ℕ) → last_prewritten h t k ≡ option_map (λ x. x.value) (write_of m t k)
+  pub reads : (t k : ℕ) → sight_of h t k ≡ option_map (λ x. (x.value, x.seen.number)) (read_of m t k)
+  pub writes : (t k : ℕ) → last_prewrite h t k ≡ option_map (λ x. x.value) (write_of m t k)
   pub stamps : (t : ℕ) → stamp_of h t ≡ line_stamp (transaction_of m t)

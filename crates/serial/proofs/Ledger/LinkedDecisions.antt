@@ -1,10 +1,9 @@
 -- What the ledger says of a decision and of a settlement is what they leave in the books.
---   settled_fate     a row that was settled shows what its transaction's stamp says
---   replied_stamp    the stamp that a decide replies is the decision's
+--   settled_shows   a row that was settled shows what its transaction's stamp says
+--   replied_stamp   the stamp that a decide replies is the decision's
 use Rattle.std.proofs.Common.{◌≡◌, true, pos, Some, None, Ok, Option, sym, refl, ap, ◌∙◌}
-use Rattle.wire.proofs.Clash.{clash}
-use Rattle.wire.specs.declared.stamp.Stamp.{Stamp}
-use Rattle.lines.specs.Rows.{moves, moved}
+use Rattle.base.specs.declared.stamp.Stamp.{Stamp}
+use Rattle.lines.specs.Rows.{moved_row_in, moved_row}
 use Rattle.lines.specs.declared.row.Event.{Event}
 use Rattle.lines.specs.declared.row.Event.TheVariants.{Abort, Commit}
 use Rattle.lines.specs.declared.row.Row.{Row}
@@ -13,40 +12,40 @@ use Rattle.lines.specs.declared.row.State.TheVariants as state
 use Rattle.lines.specs.declared.transaction.Decision.{Decision}
 use Rattle.lines.specs.declared.transaction.Decision.TheVariants as decision
 use Rattle.lines.specs.declared.transaction.Transaction.{Transaction}
-use Rattle.register.specs.Calls.{decision_reply}
-use Rattle.register.specs.Checks.{event_of, decided_line}
+use Rattle.protocol.specs.Calls.{decision_reply}
+use Rattle.protocol.specs.Checks.{event_of, event_of_line}
 use Rattle.serial.specs.Ledger.{stamp_in}
-use Rattle.serial.proofs.Ledger.Fates.{Past, Gone, settled_at, stamp_or}
+use Rattle.serial.proofs.Ledger.Fates.{Past, Gone, settled_fate, stamp_or}
 use Rattle.serial.proofs.Ledger.Linked.{row_fate, decided_stamp, line_stamp}
 
 -- A row that was settled shows what its transaction's stamp says.
-pub settled_fate : (o : Option Transaction) (e : Event) (r : Row) → decided_line o ≡ Ok e → (moved r e).1 ≡ Ok tt
-    → settled_at (line_stamp o) ≡ row_fate (Some (moved r e).0)
-settled_fate None e r q ok = clash cc
-settled_fate (Some x) e r q ok = go x.decision q
+pub settled_shows : (o : Option Transaction) (e : Event) (r : Row) → event_of_line o ≡ Ok e → (moved_row r e).1 ≡ Ok tt
+    → settled_fate (line_stamp o) ≡ row_fate (Some (moved_row r e).0)
+settled_shows None e r q ok = absurd cc
+settled_shows (Some x) e r q ok = go x.decision q
   where
-    committed : (c : Stamp) (s : State) → (moves r s (Commit c)).1 ≡ Ok tt
-        → Past true (pos c.number) (pos c.number) ≡ row_fate (Some (moves r s (Commit c)).0)
-    committed c state.Running d = clash cc
+    committed : (c : Stamp) (s : State) → (moved_row_in r s (Commit c)).1 ≡ Ok tt
+        → Past true (pos c.number) (pos c.number) ≡ row_fate (Some (moved_row_in r s (Commit c)).0)
+    committed c state.Running d = absurd cc
     committed c state.Validated d = refl
-    committed c state.Committed d = clash cc
-    committed c state.Aborted d = clash cc
+    committed c state.Committed d = absurd cc
+    committed c state.Aborted d = absurd cc
 
-    aborted : (s : State) → (moves r s Abort).1 ≡ Ok tt → Gone ≡ row_fate (Some (moves r s Abort).0)
+    aborted : (s : State) → (moved_row_in r s Abort).1 ≡ Ok tt → Gone ≡ row_fate (Some (moved_row_in r s Abort).0)
     aborted state.Running d = refl
     aborted state.Validated d = refl
-    aborted state.Committed d = clash cc
-    aborted state.Aborted d = clash cc
+    aborted state.Committed d = absurd cc
+    aborted state.Aborted d = absurd cc
 
-    go : (d : Option Decision) → event_of d ≡ Ok e → settled_at (decided_stamp d) ≡ row_fate (Some (moved r e).0)
-    go None d = clash cc
+    go : (d : Option Decision) → event_of d ≡ Ok e → settled_fate (decided_stamp d) ≡ row_fate (Some (moved_row r e).0)
+    go None d = absurd cc
     go (Some (decision.Committed c)) d =
         let i : e ≡ Commit c = cc in
-        let ok' : (moved r (Commit c)).1 ≡ Ok tt = ap (λ v. (moved r v).1) (sym i) ∙ ok in
+        let ok' : (moved_row r (Commit c)).1 ≡ Ok tt = ap (λ v. (moved_row r v).1) (sym i) ∙ ok in
         rw i (committed c r.state ok')
     go (Some decision.Aborted) d =
         let i : e ≡ Abort = cc in
-        let ok' : (moved r Abort).1 ≡ Ok tt = ap (λ v. (moved r v).1) (sym i) ∙ ok in
+        let ok' : (moved_row r Abort).1 ≡ Ok tt = ap (λ v. (moved_row r v).1) (sym i) ∙ ok in
         rw i (aborted r.state ok')
 
 -- The stamp that a decide replies is the decision's.

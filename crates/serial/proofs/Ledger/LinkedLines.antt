@@ -1,13 +1,13 @@
 -- What was seen, put and decided, by the lines of a register: how the lines and what the ledger says of them change together.
---   first_seen, again_seen      a read that adds a line, and one that was answered before
---   first_put, again_put        a prewrite that adds a line, and one that replaces a value
---   begun_stamps                a transaction that begins has no stamp
---   decided_stamps              one that is decided has the stamp of its decision
+--   first_seen, again_seen   a read that adds a line, and one that was answered before
+--   first_put, again_put     a prewrite that adds a line, and one that replaces a value
+--   begun_stamps             a transaction that begins has no stamp
+--   decided_stamps           one that is decided has the stamp of its decision
+use Rattle.protocol.specs.Replies.{Response}
 use Rattle.std.proofs.Common.{◌≡◌, ℕ, Bool, true, false, cond, ◌&&◌, eqb, List, [], ◌∷◌, ◌++◌, ℤ, Some, None, Ok, Option, sym, refl, ap, ◌∙◌, subst}
 use Rattle.std.proofs.lemmas.Bool.{and_parts, eqb-true, eq-eqb}
-use Rattle.std.specs.Option.{option_map}
-use Rattle.wire.proofs.Clash.{clash}
-use Rattle.wire.specs.declared.stamp.Stamp.{Stamp}
+use Rattle.std.specs.Option.{option_map, option_or}
+use Rattle.base.specs.declared.stamp.Stamp.{Stamp}
 use Rattle.book.specs.Books.{line_with}
 use Rattle.lines.specs.LineKeys.{read_key, write_key, same_access}
 use Rattle.lines.specs.declared.access.AccessKey.{AccessKey}
@@ -15,12 +15,11 @@ use Rattle.lines.specs.declared.access.ReadLine.{ReadLine}
 use Rattle.lines.specs.declared.access.WriteLine.{WriteLine}
 use Rattle.lines.specs.declared.transaction.Decision.{Decision}
 use Rattle.lines.specs.declared.transaction.Transaction.{Transaction}
-use Rattle.register.specs.Checks.{open_line, open_decision}
-use Rattle.register.specs.Model.{replaced}
-use Rattle.register.specs.Calls.{Response}
-use Rattle.register.specs.declared.call.Reply.TheVariants as reply
-use Rattle.serial.proofs.Ledger.Fates.{seen_or}
-use Rattle.serial.proofs.Lines.Found.{or_else, find_append, find_replaced, find_other, or_none}
+use Rattle.protocol.specs.Checks.{check_open_line, check_open_decision}
+use Rattle.protocol.specs.Model.{with_line}
+use Rattle.protocol.specs.declared.call.Reply.TheVariants as reply
+use Rattle.serial.proofs.Ledger.Fates.{sight_or}
+use Rattle.serial.proofs.Lines.Found.{find_append, find_replaced, find_other, or_none}
 use Rattle.serial.proofs.Ledger.Linked.{decided_stamp, line_stamp}
 use Rattle.serial.proofs.Lines.ByKey.{by_test, by_key, and_true, own_key}
 
@@ -38,59 +37,59 @@ other_access t k u j n x e =
     rw (a, b) n
 
 -- What a read line says was seen.
-abbrev pub seen_at : ReadLine → ℤ × ℕ
-seen_at x = (x.value, x.seen.number)
+abbrev sight_in_line : ReadLine → ℤ × ℕ
+sight_in_line x = (x.value, x.seen.number)
 
 module _ (f : ℕ → ℕ → Option (ℤ × ℕ)) (xs : List ReadLine) (t k : ℕ)
-    (shown : (u j : ℕ) → f u j ≡ option_map seen_at (line_with same_access read_key (access u j) xs)) where
+    (shown : (u j : ℕ) → f u j ≡ option_map sight_in_line (line_with same_access read_key (access u j) xs)) where
   -- A read that was answered before.
   pub again_seen : (x : ReadLine) (r : Response) → line_with same_access read_key (access t k) xs ≡ Some x → (u j : ℕ)
-      → cond (eqb t u && eqb k j) (seen_or (f u j) r) (f u j) ≡ option_map seen_at (line_with same_access read_key (access u j) xs)
+      → cond (eqb t u && eqb k j) (sight_or (f u j) r) (f u j) ≡ option_map sight_in_line (line_with same_access read_key (access u j) xs)
   again_seen x r at u j =
-      by_key (λ v i b. cond b (seen_or (f v i) r) (f v i) ≡ option_map seen_at (line_with same_access read_key (access v i) xs)) t k u j
+      by_key (λ v i b. cond b (sight_or (f v i) r) (f v i) ≡ option_map sight_in_line (line_with same_access read_key (access v i) xs)) t k u j
       (rw (shown t k, at) refl) (λ _. shown u j)
 
   -- A first read.
   pub first_seen : (value : ℤ) (s : Stamp) → line_with same_access read_key (access t k) xs ≡ None → (u j : ℕ)
-      → cond (eqb t u && eqb k j) (seen_or (f u j) (Ok (reply.Value value s))) (f u j)
-      ≡ option_map seen_at (line_with same_access read_key (access u j)
+      → cond (eqb t u && eqb k j) (sight_or (f u j) (Ok (reply.Value value s))) (f u j)
+      ≡ option_map sight_in_line (line_with same_access read_key (access u j)
       (xs ++ record { transaction = t; key = k; value = value; seen = s } ∷ []))
   first_seen value s at u j =
       rw (find_append same_access read_key (access u j) xs (record { transaction = t; key = k; value = value; seen = s } ∷ []))
-      (by_key (λ v i b. cond b (seen_or (f v i) (Ok (reply.Value value s))) (f v i)
-      ≡ option_map seen_at (or_else (line_with same_access read_key (access v i) xs)
+      (by_key (λ v i b. cond b (sight_or (f v i) (Ok (reply.Value value s))) (f v i)
+      ≡ option_map sight_in_line (option_or (line_with same_access read_key (access v i) xs)
       (cond b (Some (record { transaction = t; key = k; value = value; seen = s })) None))) t k u j
       (rw (shown t k, at) refl) (λ _. rw (or_none (line_with same_access read_key (access u j) xs)) (shown u j)))
 
 -- What a write line says was put.
-abbrev pub put_at : WriteLine → ℤ
-put_at x = x.value
+abbrev value_in_line : WriteLine → ℤ
+value_in_line x = x.value
 
 module _ (f : ℕ → ℕ → Option ℤ) (xs : List WriteLine) (t k : ℕ) (value : ℤ)
-    (shown : (u j : ℕ) → f u j ≡ option_map put_at (line_with same_access write_key (access u j) xs)) where
+    (shown : (u j : ℕ) → f u j ≡ option_map value_in_line (line_with same_access write_key (access u j) xs)) where
   abbrev line : WriteLine
   line = record { transaction = t; key = k; value = value }
 
   -- A prewrite that replaces a value.
   pub again_put : (x : WriteLine) → line_with same_access write_key (access t k) xs ≡ Some x → (u j : ℕ)
       → cond (eqb t u && (eqb k j && true)) (Some value) (f u j)
-      ≡ option_map put_at (line_with same_access write_key (access u j) (replaced same_access write_key (access t k) line xs))
+      ≡ option_map value_in_line (line_with same_access write_key (access u j) (with_line same_access write_key (access t k) line xs))
   again_put x at u j =
       rw (and_true (eqb t u) (eqb k j))
       (by_key (λ v i b. cond b (Some value) (f v i)
-      ≡ option_map put_at (line_with same_access write_key (access v i) (replaced same_access write_key (access t k) line xs))) t k u j
-      (ap (option_map put_at) (sym (find_replaced same_access write_key (access t k) line x (own_key t k) xs at)))
-      (λ n. shown u j ∙ ap (option_map put_at) (sym (find_other same_access write_key (access u j) (access t k) line n
+      ≡ option_map value_in_line (line_with same_access write_key (access v i) (with_line same_access write_key (access t k) line xs))) t k u j
+      (ap (option_map value_in_line) (sym (find_replaced same_access write_key (access t k) line x (own_key t k) xs at)))
+      (λ n. shown u j ∙ ap (option_map value_in_line) (sym (find_other same_access write_key (access u j) (access t k) line n
       (λ y. other_access t k u j n (write_key y)) xs))))
 
   -- A first prewrite.
   pub first_put : line_with same_access write_key (access t k) xs ≡ None → (u j : ℕ)
       → cond (eqb t u && (eqb k j && true)) (Some value) (f u j)
-      ≡ option_map put_at (line_with same_access write_key (access u j) (xs ++ line ∷ []))
+      ≡ option_map value_in_line (line_with same_access write_key (access u j) (xs ++ line ∷ []))
   first_put at u j =
       rw (and_true (eqb t u) (eqb k j), find_append same_access write_key (access u j) xs (line ∷ []))
       (by_key (λ v i b. cond b (Some value) (f v i)
-      ≡ option_map put_at (or_else (line_with same_access write_key (access v i) xs) (cond b (Some line) None))) t k u j
+      ≡ option_map value_in_line (option_or (line_with same_access write_key (access v i) xs) (cond b (Some line) None))) t k u j
       (rw at refl) (λ _. rw (or_none (line_with same_access write_key (access u j) xs)) (shown u j)))
 
 -- The line of a transaction among some.
@@ -98,17 +97,17 @@ abbrev number_in : List Transaction → ℕ → Option Transaction
 number_in xs u = line_with eqb (λ x. x.number) u xs
 
 -- The lines with a decision.
-abbrev with_decision : ℕ → Decision → List Transaction → List Transaction
-with_decision t d xs = replaced eqb (λ x. x.number) t (record { number = t; decision = Some d }) xs
+abbrev lines_decided : ℕ → Decision → List Transaction → List Transaction
+lines_decided t d xs = with_line eqb (λ x. x.number) t (record { number = t; decision = Some d }) xs
 
 -- An open transaction has a line, and no stamp.
-pub open_stamp : (o : Option Transaction) → open_line o ≡ Ok tt → line_stamp o ≡ None
+pub open_stamp : (o : Option Transaction) → check_open_line o ≡ Ok tt → line_stamp o ≡ None
 open_stamp None e = refl
 open_stamp (Some x) e = go x.decision e
   where
-    go : (d : Option Decision) → open_decision d ≡ Ok tt → decided_stamp d ≡ None
+    go : (d : Option Decision) → check_open_decision d ≡ Ok tt → decided_stamp d ≡ None
     go None q = refl
-    go (Some d) q = clash cc
+    go (Some d) q = absurd cc
 
 module _ (f : ℕ → Option ℕ) (xs : List Transaction) (t : ℕ) (shown : (u : ℕ) → f u ≡ line_stamp (number_in xs u)) where
   -- A transaction that begins has no stamp.
@@ -118,23 +117,23 @@ module _ (f : ℕ → Option ℕ) (xs : List Transaction) (t : ℕ) (shown : (u 
       (shown u ∙ go (number_in xs u) (eqb t u))
     where
       go : (o : Option Transaction) (b : Bool)
-          → line_stamp o ≡ line_stamp (or_else o (cond b (Some (record { number = t; decision = None })) None))
+          → line_stamp o ≡ line_stamp (option_or o (cond b (Some (record { number = t; decision = None })) None))
       go (Some x) b = refl
       go None true = refl
       go None false = refl
 
   -- A transaction that is decided has the stamp of its decision.
-  pub decided_stamps : (a : ℕ → Option ℕ) (d : Decision) → open_line (number_in xs t) ≡ Ok tt → a t ≡ decided_stamp (Some d) → (u : ℕ)
-      → cond (eqb t u) (a u) (f u) ≡ line_stamp (number_in (with_decision t d xs) u)
-  decided_stamps a d begun own u =
-      by_test (λ b. cond b (a u) (f u) ≡ line_stamp (number_in (with_decision t d xs) u)) (eqb t u)
-      (λ e. subst (λ v. a v ≡ line_stamp (number_in (with_decision t d xs) v)) (eqb-true _ _ e)
-      (own ∙ here (number_in xs t) refl begun))
+  pub decided_stamps : (a : ℕ → Option ℕ) (d : Decision) → check_open_line (number_in xs t) ≡ Ok tt → a t ≡ decided_stamp (Some d) → (u : ℕ)
+      → cond (eqb t u) (a u) (f u) ≡ line_stamp (number_in (lines_decided t d xs) u)
+  decided_stamps a d fate_begun own u =
+      by_test (λ b. cond b (a u) (f u) ≡ line_stamp (number_in (lines_decided t d xs) u)) (eqb t u)
+      (λ e. subst (λ v. a v ≡ line_stamp (number_in (lines_decided t d xs) v)) (eqb-true _ _ e)
+      (own ∙ here (number_in xs t) refl fate_begun))
       (λ n. shown u ∙ ap line_stamp (sym (find_other eqb (λ x. x.number) u t (record { number = t; decision = Some d }) n
       (λ x s. ap (λ v. eqb v u) (eqb-true _ _ s) ∙ n) xs)))
     where
-      here : (o : Option Transaction) → number_in xs t ≡ o → open_line o ≡ Ok tt
-          → decided_stamp (Some d) ≡ line_stamp (number_in (with_decision t d xs) t)
-      here None e q = clash cc
+      here : (o : Option Transaction) → number_in xs t ≡ o → check_open_line o ≡ Ok tt
+          → decided_stamp (Some d) ≡ line_stamp (number_in (lines_decided t d xs) t)
+      here None e q = absurd cc
       here (Some x) e q =
           ap line_stamp (sym (find_replaced eqb (λ y. y.number) t (record { number = t; decision = Some d }) x (eq-eqb t t refl) xs e))

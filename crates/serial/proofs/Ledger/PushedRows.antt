@@ -1,10 +1,11 @@
 -- Rows that make way for a validation show the fates they showed.
---   pushed_fates    what is said of the fates goes by such rows, if it went by them before
+--   pushed_fates   what is said of the fates goes by such rows, if it went by them before
 use Rattle.std.proofs.Common.{◌≡◌, ℕ, Bool, true, false, cond, ◌&&◌, eqb, List, [], ◌∷◌, map, ℤ, Some, None, Option, sym, refl, ap, ◌∙◌, subst}
 use Rattle.std.proofs.Common.{option_and_then, arith}
 use Rattle.std.proofs.lemmas.Bool.{and_left, and_right, and_parts, eqb-true, or_from}
 use Rattle.std.specs.Option.{option_map}
-use Rattle.wire.specs.Keys.{ground_of}
+use Rattle.std.specs.List.{list_any}
+use Rattle.base.specs.Keys.{ground_of}
 use Rattle.lines.specs.Locks.{row_of}
 use Rattle.lines.specs.Notes.{side_of, effect_by}
 use Rattle.lines.specs.declared.note.Effect.{Effect}
@@ -13,10 +14,9 @@ use Rattle.lines.specs.declared.note.Side.{Side}
 use Rattle.lines.specs.declared.row.Row.{Row}
 use Rattle.lines.specs.declared.row.State.{State}
 use Rattle.lines.specs.declared.row.State.TheVariants as state
-use Rattle.register.specs.Checks.{any}
-use Rattle.register.specs.Model.{Model}
-use Rattle.register.specs.Among.{is_after, is_before, effect_with, other_party}
-use Rattle.register.specs.Validation.{joins, note_effect, pushed}
+use Rattle.protocol.specs.Model.{Model}
+use Rattle.protocol.specs.Among.{is_after, is_before, effect_with, other_party}
+use Rattle.protocol.specs.Validation.{joins, note_effect, pushed}
 use Rattle.serial.proofs.Ledger.Fates.{Fate}
 use Rattle.serial.proofs.Ledger.Linked.{fate_by, row_fate}
 use Rattle.serial.proofs.Lines.RowKeys.{found_key, pushed_rows}
@@ -45,7 +45,7 @@ idle_noted on true n t x none idle = by_side (side_of n t)
 idle_noted on false n t x none idle = none
 
 -- A test that no line passes.
-any_never : {X : Type 0} (p : X → Bool) → ((x : X) → p x ≡ false) → (xs : List X) → any p xs ≡ false
+any_never : {X : Type 0} (p : X → Bool) → ((x : X) → p x ≡ false) → (xs : List X) → list_any p xs ≡ false
 any_never p e [] = refl
 any_never p e (x ∷ xs) = or_from (p x) _ (e x) (any_never p e xs)
 
@@ -66,7 +66,7 @@ module _ (m : Model) (t g : ℕ) where
           (λ _. and_right (on (note_effect m t g n)) false refl)
 
       go : (b : Bool) → eqb x.ground g ≡ b
-          → (b && any (λ n. on (note_effect m t g n) && eqb (other_party n t) x.transaction) m.notes) ≡ false
+          → (b && list_any (λ n. on (note_effect m t g n) && eqb (other_party n t) x.transaction) m.notes) ≡ false
       go true e = any_never _ (noted e) m.notes
       go false e = refl
 

@@ -1,17 +1,17 @@
 -- An entry of the ledger that says nothing new.
---   Silent h e        with the entry e the history h says what it said without
---   refused_silent    that of a refused call does not
---   silent_linked     what held of the books holds still
+--   Silent h e       with the entry e the history h says what it said without
+--   refused_silent   that of a refused call does not
+--   silent_linked    what held of the books holds still
+use Rattle.protocol.specs.Replies.{Response}
 use Rattle.std.proofs.Common.{◌≡◌, ℕ, Bool, true, false, cond, ◌&&◌, eqb, ◌∷◌, refl, ◌∙◌, Err}
 use Rattle.std.proofs.lemmas.Bool.{and_right}
-use Rattle.wire.specs.Keys.{ground_of}
-use Rattle.wire.specs.declared.refusal.Refusal.{Refusal}
-use Rattle.register.specs.Model.{Model}
-use Rattle.register.specs.declared.call.Call.{Call}
-use Rattle.register.specs.declared.call.Call.TheVariants as call
-use Rattle.register.specs.Calls.{Response}
-use Rattle.serial.specs.Ledger.{History, prewritten_in, last_prewritten}
-use Rattle.serial.proofs.Ledger.Fates.{seen_in, stamp_from, fate_in, fate, seen, stamp_of}
+use Rattle.base.specs.Keys.{ground_of}
+use Rattle.base.specs.declared.refusal.Refusal.{Refusal}
+use Rattle.protocol.specs.Model.{Model}
+use Rattle.protocol.specs.declared.call.Call.{Call}
+use Rattle.protocol.specs.declared.call.Call.TheVariants as call
+use Rattle.serial.specs.Ledger.{History, last_prewrite, prewrite_in}
+use Rattle.serial.proofs.Ledger.Fates.{sight_in, stamp_from, fate_in, fate, sight_of, stamp_of}
 use Rattle.serial.proofs.Ledger.Linked.{Linked}
 use Rattle.serial.proofs.Ledger.Untouched.{unseen}
 
@@ -27,8 +27,8 @@ refused_test b c x y = rw (and_right b (c && false) (and_right c false refl)) re
 -- With one more entry the ledger says what it said.
 pub record Silent (h : History) (e : Call × Response) : Type 0 where
   pub fates : (t g : ℕ) → fate (e ∷ h) t g ≡ fate h t g
-  pub sights : (t k : ℕ) → seen (e ∷ h) t k ≡ seen h t k
-  pub puts : (t k : ℕ) → last_prewritten (e ∷ h) t k ≡ last_prewritten h t k
+  pub sights : (t k : ℕ) → sight_of (e ∷ h) t k ≡ sight_of h t k
+  pub puts : (t k : ℕ) → last_prewrite (e ∷ h) t k ≡ last_prewrite h t k
   pub stamps : (t : ℕ) → stamp_of (e ∷ h) t ≡ stamp_of h t
 
 -- The ledger and the books still say the same.
@@ -54,16 +54,16 @@ refused_silent h c e =
     fates t g (call.Withdraw u) = refl
     fates t g (call.Settle u j) = refused_test (eqb u t) (eqb j g) _ _
 
-    sights : (t k : ℕ) (d : Call) → seen_in t k d (Err e) (seen h t k) ≡ seen h t k
+    sights : (t k : ℕ) (d : Call) → sight_in t k d (Err e) (sight_of h t k) ≡ sight_of h t k
     sights t k (call.Begin u) = refl
-    sights t k (call.Read u j) = either (eqb u t && eqb j k) _ _ (unseen (seen h t k) (Err e) refl)
+    sights t k (call.Read u j) = either (eqb u t && eqb j k) _ _ (unseen (sight_of h t k) (Err e) refl)
     sights t k (call.Prewrite u j v) = refl
     sights t k (call.Validate u g) = refl
     sights t k (call.Decide u) = refl
     sights t k (call.Withdraw u) = refl
     sights t k (call.Settle u g) = refl
 
-    puts : (t k : ℕ) (d : Call) → prewritten_in t k d (Err e) (last_prewritten h t k) ≡ last_prewritten h t k
+    puts : (t k : ℕ) (d : Call) → prewrite_in t k d (Err e) (last_prewrite h t k) ≡ last_prewrite h t k
     puts t k (call.Begin u) = refl
     puts t k (call.Read u j) = refl
     puts t k (call.Prewrite u j v) = refused_test (eqb u t) (eqb j k) _ _

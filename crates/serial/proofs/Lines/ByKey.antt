@@ -1,11 +1,11 @@
 -- What goes by whether two pairs of numbers are the same: a transaction and a ground, or a transaction and a key.
---   by_test     what holds by a test where it passes and where it fails
---   by_key      what holds at one key, and at every other, holds at each
---   and_true    a test that passes last adds nothing
---   own_key     a key is its own
---   at_key, off_key            the value at one key, and at all others
---   at_key_too, off_key_too    the same, where the test goes on with one that passes
---   eqb_turned                 two numbers differ either way round
+--   by_test                   what holds by a test where it passes and where it fails
+--   by_key                    what holds at one key, and at every other, holds at each
+--   and_true                  a test that passes last adds nothing
+--   own_key                   a key is its own
+--   at_key, off_key           the value at one key, and at all others
+--   at_key_too, off_key_too   the same, where the test goes on with one that passes
+--   eqb_turned                two numbers differ either way round
 use Rattle.std.proofs.Common.{◌≡◌, ℕ, Bool, true, false, cond, ◌&&◌, eqb, refl, sym, ap, ◌∙◌, subst}
 use Rattle.std.proofs.lemmas.Bool.{and_parts, eqb-true, eq-eqb, ne_eqb, true≢false}
 

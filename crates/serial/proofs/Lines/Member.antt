@@ -4,12 +4,11 @@
 --   in_map, in_joined, in_kept   of a list that is mapped, of what lines give together, of the lines that pass a test
 --   in_found                     a line that is found is one of the list
 --   in_all, in_none              what holds of every line; a test that no line passes
-use Rattle.std.proofs.Common.{◌≡◌, Bool, true, false, cond, ◌⊎◌, List, [], ◌∷◌, ◌++◌, map, Some, filter, sym, refl, ap, ◌∙◌, subst, inl, inr}
+--   in_contained                 what a list contains
+use Rattle.std.proofs.Common.{◌≡◌, Bool, true, false, cond, ◌⊎◌, List, [], ◌∷◌, ◌++◌, map, Some, filter, sym, ap, ◌∙◌, subst, inl, inr, zero, suc, arith}
 use Rattle.std.proofs.lemmas.Bool.{or_parts}
-use Rattle.std.specs.List.{flat_map, AllByRecursion}
-use Rattle.wire.proofs.Clash.{clash}
+use Rattle.std.specs.List.{flat_map, AllByRecursion, Contains, list_any}
 use Rattle.book.specs.Books.{line_with}
-use Rattle.register.specs.Checks.{any}
 
 -- One of a list.
 abbrev pub In : {X : Type 0} → X → List X → Type 0
@@ -54,7 +53,7 @@ in_kept p x (z ∷ zs) t (inr i) = go (p z) (in_kept p x zs t i)
 -- A line that is found is one of the list.
 pub in_found : {X K : Type 0} (same : K → K → Bool) (f : X → K) (k : K) (xs : List X) (x : X)
     → line_with same f k xs ≡ Some x → In x xs
-in_found same f k [] x e = clash cc
+in_found same f k [] x e = absurd cc
 in_found same f k (y ∷ ys) x e = go (same (f y) k) e (λ d. in_found same f k ys x d)
   where
     go : (b : Bool) → cond b (Some y) (line_with same f k ys) ≡ Some x → (line_with same f k ys ≡ Some x → In x ys)
@@ -69,12 +68,13 @@ in_all Q x (z ∷ zs) a (inl e) = subst Q e a.0
 in_all Q x (z ∷ zs) a (inr i) = in_all Q x zs a.1 i
 
 -- Where no line passes a test, each fails it.
-pub in_none : {X : Type 0} (p : X → Bool) (x : X) (xs : List X) → any p xs ≡ false → In x xs → p x ≡ false
+pub in_none : {X : Type 0} (p : X → Bool) (x : X) (xs : List X) → list_any p xs ≡ false → In x xs → p x ≡ false
 in_none p x [] n i = absurd i
 in_none p x (z ∷ zs) n (inl e) = ap p (sym e) ∙ (or_parts (p z) _ n).0
 in_none p x (z ∷ zs) n (inr i) = in_none p x zs (or_parts (p z) _ n).1 i
 
--- What holds of each that is in a list holds of all.
-pub all_each : {X : Type 0} (Q : X → Type 0) (xs : List X) → ((x : X) → In x xs → Q x) → AllByRecursion Q xs
-all_each Q [] f = tt
-all_each Q (x ∷ xs) f = (f x (inl refl), all_each Q xs (λ y i. f y (inr i)))
+-- What a list contains is in it.
+pub in_contained : {X : Type 0} (xs : List X) (x : X) → Contains xs x → In x xs
+in_contained [] x (k, l, e) = absurd (omega arith)
+in_contained (y ∷ ys) x (zero, l, e) = inl e
+in_contained (y ∷ ys) x (suc k, l, e) = inr (in_contained ys x (k, (omega arith), e))

@@ -1,35 +1,39 @@
 -- A validation depends on its ground alone: each thing that it looks at is the same in two registers that agree there.
---   row_same                       the row of a transaction there
---   floors_same, ceilings_same     what its range lies above and below
---   befores_same, afters_same      what a policy is shown
---   pushed_same                    how a row makes way
---   other_row, row_local           a row of another ground is no row there, so those of the ground are enough
-use Rattle.std.proofs.Common.{◌≡◌, ℕ, Bool, true, false, cond, ◌&&◌, eqb, List, [], ◌++◌, map, ℤ, None, filter, Option, sym, refl, ap, ◌∙◌}
+--   row_same                     the row of a transaction there
+--   floors_same, ceilings_same   what its range lies above and below
+--   befores_same, afters_same    what a policy is shown
+--   pushed_same                  how a row makes way
+--   lowers_fit, uppers_fit       what a policy is shown can be bounds of rows
+--   other_row, row_local         a row of another ground is no row there, so those of the ground are enough
+use Rattle.std.proofs.Common.{◌≡◌, ℕ, Bool, true, false, cond, ◌&&◌, eqb, List, [], ◌++◌, map, ℤ, None, filter, Option, sym, refl, ap, ◌∙◌, ◌<◌}
 use mathlib.Core.Path.{fun_ext}
 use Rattle.std.proofs.lemmas.Bool.{and_left, and_right, cond-false, eqb-true}
-use Rattle.std.specs.List.{flat_map}
+use Rattle.std.specs.List.{flat_map, AllByRecursion, list_any}
+use Rattle.std.proofs.ByRecursion.{All-map, All-weaker}
 use Rattle.store.specs.Stores.{Cells}
-use Rattle.wire.specs.Keys.{ground_of}
+use Rattle.base.specs.Keys.{ground_of}
 use Rattle.lines.specs.LineKeys.{row_key, same_row}
 use Rattle.lines.specs.Locks.{row_of}
+use Rattle.lines.specs.Rows.{IsBounded}
 use Rattle.lines.specs.declared.access.ReadLine.{ReadLine}
 use Rattle.lines.specs.declared.access.WriteLine.{WriteLine}
 use Rattle.lines.specs.declared.note.Effect.{Effect}
 use Rattle.lines.specs.declared.note.Note.{Note}
 use Rattle.lines.specs.declared.row.Row.{Row}
-use Rattle.register.specs.Checks.{any}
-use Rattle.register.specs.Model.{Model}
-use Rattle.register.specs.Among.{other_party, effect_with, effect_floor, effect_ceiling, is_before, is_after}
-use Rattle.register.specs.Validation.{of_here, read_floor, write_floor, stamps_of, note_effect, floors, ceilings, joins, befores, afters, pushed}
-use Rattle.serial.specs.Agreement.{rows_at, reads_at, writes_at, notes_at, Agree}
+use Rattle.protocol.specs.Model.{Model}
+use Rattle.protocol.specs.Among.{other_party, effect_with, effect_floor, effect_ceiling, is_before, is_after}
+use Rattle.protocol.specs.Validation.{of_here, read_floor, write_floor, stamps_of, note_effect, floors, ceilings, joins, befores, afters, pushed}
+use Rattle.serial.specs.Agreement.{rows_at, reads_at, writes_at, notes_at, Agree, IsLower, IsUpper}
+use Rattle.serial.proofs.Local.ShortKeys.{HasShortKeys}
 use Rattle.serial.proofs.Lines.Kept.{joined_kept, any_kept, kept_kept, line_kept}
+use Rattle.serial.proofs.Lines.All.{all_kept, joined_same}
 
 -- A row of another ground has another key.
 pub other_row : (t g : ℕ) (r : Row) → eqb r.ground g ≡ false → same_row (row_key r) (record { transaction = t; ground = g }) ≡ false
 other_row t g r e = and_right (eqb r.transaction t) _ e
 
 -- The row of a transaction at a ground is one of the ground's rows.
-pub row_local : (rows : List Row) (t g : ℕ) → row_of rows t g ≡ row_of (rows_at g rows) t g
+row_local : (rows : List Row) (t g : ℕ) → row_of rows t g ≡ row_of (rows_at g rows) t g
 row_local rows t g = line_kept (λ r. eqb r.ground g) same_row row_key (record { transaction = t; ground = g }) (other_row t g) rows
 
 -- A note of another ground says nothing.
@@ -44,7 +48,7 @@ elsewhere t g u k xs e = cond-false _ _ _ (and_right (eqb u t) _ e)
 unjoined : (on : Option Effect → Bool) (m : Model) (t g : ℕ) (r : Row) → eqb r.ground g ≡ false → joins on m t g r ≡ false
 unjoined on m t g r e = and_left (eqb r.ground g) _ e
 
-module _ (g : ℕ) (m n : Model) (a : Agree g m n) where
+module _ (g : ℕ) (m n : Model) (short : HasShortKeys g m) (a : Agree g m n) where
   -- So it is the same in both registers.
   pub row_same : (u : ℕ) → row_of m.rows u g ≡ row_of n.rows u g
   row_same u = row_local m.rows u g ∙ (ap (λ rs. row_of rs u g) a.rows ∙ sym (row_local n.rows u g))
@@ -73,11 +77,11 @@ module _ (g : ℕ) (m n : Model) (a : Agree g m n) where
         local m.reads ∙ (ap (flat_map (read_floor t g)) a.reads ∙ sym (local n.reads))
 
     -- A write raises the same floors by both registers' cells.
-    write_same : (x : WriteLine) → write_floor m.cells t g x ≡ write_floor n.cells t g x
-    write_same x = go (eqb (ground_of x.key) g) refl
+    write_same : (x : WriteLine) → x.key < 65536 → write_floor m.cells t g x ≡ write_floor n.cells t g x
+    write_same x k = go (eqb (ground_of x.key) g) refl
       where
         go : (b : Bool) → eqb (ground_of x.key) g ≡ b → write_floor m.cells t g x ≡ write_floor n.cells t g x
-        go true e = ap (λ c. cond (of_here t g x.transaction x.key) (stamps_of c) []) (a.cells x.key (eqb-true _ _ e))
+        go true e = ap (λ c. cond (of_here t g x.transaction x.key) (stamps_of c) []) (a.cells x.key k (eqb-true _ _ e))
         go false e = elsewhere t g x.transaction x.key _ e ∙ sym (elsewhere t g x.transaction x.key _ e)
 
     -- Writes raise the same floors.
@@ -85,8 +89,9 @@ module _ (g : ℕ) (m n : Model) (a : Agree g m n) where
     writes_same =
         let local : (c : Cells) (xs : List WriteLine) → flat_map (write_floor c t g) xs ≡ flat_map (write_floor c t g) (writes_at g xs) =
         λ c. joined_kept (λ x. eqb (ground_of x.key) g) (write_floor c t g) (λ x d. elsewhere t g x.transaction x.key _ d) in
-        local m.cells m.writes ∙ (ap (flat_map (write_floor m.cells t g)) a.writes
-        ∙ (ap (λ h. flat_map h (writes_at g n.writes)) (fun_ext write_same) ∙ sym (local n.cells n.writes)))
+        local m.cells m.writes
+        ∙ (joined_same _ (write_floor m.cells t g) (write_floor n.cells t g) write_same (writes_at g m.writes) short
+        ∙ (ap (flat_map (write_floor n.cells t g)) a.writes ∙ sym (local n.cells n.writes)))
 
     pub floors_same : floors m t g ≡ floors n t g
     floors_same =
@@ -101,13 +106,13 @@ module _ (g : ℕ) (m n : Model) (a : Agree g m n) where
     joins_same : (on : Option Effect → Bool) → on None ≡ false → (r : Row) → joins on m t g r ≡ joins on n t g r
     joins_same on e r =
         let names : (q : Model) → Note → Bool = λ q x. on (note_effect q t g x) && eqb (other_party x t) r.transaction in
-        let local : (q : Model) → any (names q) q.notes ≡ any (names q) (notes_at g q.notes) =
+        let local : (q : Model) → list_any (names q) q.notes ≡ list_any (names q) (notes_at g q.notes) =
         λ q. any_kept (λ x. eqb (ground_of x.key) g) (names q)
         (λ x d. and_left (on (note_effect q t g x)) _ (ap on (silent q t g x d) ∙ e)) q.notes in
         let same : names m ≡ names n =
         fun_ext (λ x. ap (λ y. on y && eqb (other_party x t) r.transaction) (effect_same x)) in
         ap (λ b. eqb r.ground g && b)
-        (local m ∙ (ap (any (names m)) a.notes ∙ (ap (λ h. any h (notes_at g n.notes)) same ∙ sym (local n))))
+        (local m ∙ (ap (list_any (names m)) a.notes ∙ (ap (λ h. list_any h (notes_at g n.notes)) same ∙ sym (local n))))
 
     -- The rows that join a list are the same.
     joined_rows : (on : Option Effect → Bool) → on None ≡ false → filter (joins on m t g) m.rows ≡ filter (joins on n t g) n.rows
@@ -126,3 +131,21 @@ module _ (g : ℕ) (m n : Model) (a : Agree g m n) where
     -- Rows make way alike.
     pub pushed_same : (range : ℤ × ℤ) → pushed m t g range ≡ pushed n t g range
     pushed_same range = fun_ext (λ r. rw (joins_same is_before refl r, joins_same is_after refl r) refl)
+
+module _ (g : ℕ) (m : Model) (bounded : AllByRecursion IsBounded m.rows) (t : ℕ) where
+  -- What a policy is shown can be bounds of rows.
+  pub lowers_fit : AllByRecursion IsLower (befores m t g)
+  lowers_fit = shown is_before
+    where
+      shown : (on : Option Effect → Bool) → AllByRecursion IsLower (map (λ r. r.lower) (filter (joins on m t g) m.rows))
+      shown on =
+          All-map IsLower (λ r. r.lower) _
+          (all_kept _ (joins on m t g) m.rows (All-weaker IsBounded _ (λ r b. (b.lower_least, b.lower_most)) m.rows bounded))
+
+  pub uppers_fit : AllByRecursion IsUpper (afters m t g)
+  uppers_fit = shown is_after
+    where
+      shown : (on : Option Effect → Bool) → AllByRecursion IsUpper (map (λ r. r.upper) (filter (joins on m t g) m.rows))
+      shown on =
+          All-map IsUpper (λ r. r.upper) _
+          (all_kept _ (joins on m t g) m.rows (All-weaker IsBounded _ (λ r b. (b.upper_least, b.upper_most)) m.rows bounded))

@@ -1,21 +1,21 @@
 -- The lower bound of a validation is above what the transaction's reads saw, and above the stamps of the cells that it writes.
---   raised_over    a bound that is raised above some numbers is above each
---   above_seen     the lower bound is above the write stamp that a read of the transaction saw
---   above_cell     and above both stamps of a cell that it writes
+--   raised_over   a bound that is raised above some numbers is above each
+--   above_seen    the lower bound is above the write stamp that a read of the transaction saw
+--   above_cell    and above both stamps of a cell that it writes
 use Rattle.std.proofs.Common.{◌≡◌, ℕ, true, eqb, List, [], ◌∷◌, ℤ, pos, ◌<ℤ◌, Some, refl, ap, ◌∙◌, subst, inl, inr, arith}
 use Rattle.std.proofs.lemmas.Int.{ints, clamps}
 use Rattle.std.proofs.lemmas.Bool.{and_parts, and_from, eqb-true, eq-eqb}
 use Rattle.std.specs.List.{flat_map}
 use Rattle.store.specs.declared.cell.Cell.{Cell}
-use Rattle.wire.specs.Keys.{ground_of}
+use Rattle.base.specs.Keys.{ground_of}
 use Rattle.lines.specs.LineKeys.{read_key, write_key, same_access}
 use Rattle.lines.specs.declared.access.AccessKey.{AccessKey}
 use Rattle.lines.specs.declared.access.ReadLine.{ReadLine}
 use Rattle.lines.specs.declared.access.WriteLine.{WriteLine}
-use Rattle.register.proofs.Raising.{raised_least}
-use Rattle.register.specs.Model.{Model, read_of, write_of}
-use Rattle.register.specs.Among.{raise, raised_above}
-use Rattle.register.specs.Validation.{of_here, read_floor, stamps_of, write_floor, floors}
+use Rattle.protocol.proofs.Raising.{raised_least}
+use Rattle.protocol.specs.Model.{Model, read_of, write_of}
+use Rattle.protocol.specs.Among.{raise, raised_above}
+use Rattle.protocol.specs.Validation.{of_here, read_floor, stamps_of, write_floor, floors}
 use Rattle.serial.proofs.Lines.Kept.{line_passes}
 use Rattle.serial.proofs.Lines.Member.{In, in_left, in_right, in_joined, in_found}
 

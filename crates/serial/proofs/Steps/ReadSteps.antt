@@ -1,34 +1,34 @@
 -- A read keeps the invariant: a second one of a key says nothing new, and a first one adds a line.
---   again_silent    a second read of a key says nothing new
---   read_first      a first read of a key keeps the invariant
+--   again_silent   a second read of a key says nothing new
+--   read_first     a first read of a key keeps the invariant
 use Rattle.std.proofs.Common.{◌≡◌, ℕ, cond, eqb, List, ◌∷◌, ◌++◌, Some, None, Ok, sym, refl, ap, ◌∙◌}
 use Rattle.std.specs.Option.{option_map}
 use Rattle.store.specs.Stores.{Cells}
 use Rattle.store.specs.declared.cell.Cell.{Cell}
-use Rattle.wire.specs.Keys.{ground_of}
+use Rattle.base.specs.Keys.{ground_of}
 use Rattle.lines.specs.Locks.{row_of}
 use Rattle.lines.specs.declared.access.ReadLine.{ReadLine}
 use Rattle.lines.specs.declared.note.Note.{Note}
-use Rattle.register.specs.Checks.{unless_stopped}
-use Rattle.register.specs.Model.{Model, read_of}
-use Rattle.register.specs.Noting.{before_note, notes_of_read, read_added}
-use Rattle.register.specs.declared.call.Call.TheVariants as call
-use Rattle.register.specs.declared.call.Reply.TheVariants as reply
+use Rattle.protocol.specs.Checks.{check_not_stopped}
+use Rattle.protocol.specs.Model.{Model, read_of}
+use Rattle.protocol.specs.Noting.{before_note, notes_of_read, with_read}
+use Rattle.protocol.specs.declared.call.Call.TheVariants as call
+use Rattle.protocol.specs.declared.call.Reply.TheVariants as reply
 use Rattle.serial.specs.Ledger.{History}
 use Rattle.serial.proofs.Changes.Seeing.{saw}
-use Rattle.serial.proofs.Ledger.Fates.{Fate, Away, Running, Past, Gone, begun, seen_or, fate, seen}
-use Rattle.serial.proofs.Steps.Holding.{view}
-use Rattle.serial.proofs.Changes.Invariant.{Reader, Sound}
+use Rattle.serial.proofs.Changes.Turns.{begun_here}
+use Rattle.serial.proofs.Ledger.Fates.{fate_begun, sight_or, fate, sight_of}
 use Rattle.serial.proofs.Ledger.Linked.{Linked}
 use Rattle.serial.proofs.Lines.ByKey.{by_key, and_true, at_key, off_key}
 use Rattle.serial.proofs.Steps.Meeting.{met_by_read}
 use Rattle.serial.proofs.Lines.Member.{in_left, in_right}
 use Rattle.serial.proofs.Ledger.Silent.{Silent}
-use Rattle.serial.proofs.Steps.Accessed.{accessed, now_running, accessed_sound, live_other, write_there}
+use Rattle.serial.proofs.Steps.Accessed.{accessed_view, now_running, accessed_sound, live_other, write_there}
+use Rattle.serial.proofs.Invariant.{Sound, view}
 
 module _ (first : Cells) (m : Model) (h : History) (L : Linked h m) (S : Sound first (view h m)) (t k : ℕ) where
   -- What a read line says was seen.
-  pub saw_it : (r : ReadLine) → read_of m t k ≡ Some r → seen h t k ≡ Some (r.value, r.seen.number)
+  saw_it : (r : ReadLine) → read_of m t k ≡ Some r → sight_of h t k ≡ Some (r.value, r.seen.number)
   saw_it r at = L.reads t k ∙ ap (option_map (λ x. (x.value, x.seen.number))) at
 
   -- A second read of a key says nothing new.
@@ -36,31 +36,25 @@ module _ (first : Cells) (m : Model) (h : History) (L : Linked h m) (S : Sound f
   again_silent r at = record {
     fates = λ u j.
         rw (and_true (eqb t u) (eqb (ground_of k) j))
-        (by_key (λ u j b. cond b (begun (fate h u j)) (fate h u j) ≡ fate h u j) t (ground_of k) u j
-        (here (fate h t (ground_of k)) (S.reader t k (r.value, r.seen.number) (saw_it r at))) (λ _. refl));
+        (by_key (λ u j b. cond b (fate_begun (fate h u j)) (fate h u j) ≡ fate h u j) t (ground_of k) u j
+        (begun_here r.seen.number (fate h t (ground_of k)) (S.reader t k (r.value, r.seen.number) (saw_it r at))) (λ _. refl));
     sights = λ u j.
-        by_key (λ u j b. cond b (seen_or (seen h u j) (Ok (reply.Value r.value r.seen))) (seen h u j) ≡ seen h u j) t k u j
-        (ap (λ o. seen_or o (Ok (reply.Value r.value r.seen))) (saw_it r at) ∙ sym (saw_it r at)) (λ _. refl);
+        by_key (λ u j b. cond b (sight_or (sight_of h u j) (Ok (reply.Value r.value r.seen))) (sight_of h u j) ≡ sight_of h u j) t k u j
+        (ap (λ o. sight_or o (Ok (reply.Value r.value r.seen))) (saw_it r at) ∙ sym (saw_it r at)) (λ _. refl);
     puts = λ u j. refl;
     stamps = λ u. refl;
   }
-    where
-      here : (f : Fate) → Reader r.seen.number (m.cells k) f → begun f ≡ f
-      here Away i = absurd i
-      here Running i = refl
-      here (Past b l u) i = refl
-      here Gone i = refl
 
-  module _ (free : unless_stopped (row_of m.rows t (ground_of k)) ≡ Ok tt) where
+  module _ (free : check_not_stopped (row_of m.rows t (ground_of k)) ≡ Ok tt) where
     -- A first read of a key keeps the invariant.
     pub read_first : (c : Cell) → m.cells k ≡ Some c → read_of m t k ≡ None
-        → Sound first (view ((call.Read t k, Ok (reply.Value c.value c.write)) ∷ h) (read_added m t k c))
+        → Sound first (view ((call.Read t k, Ok (reply.Value c.value c.write)) ∷ h) (with_read m t k c))
     read_first c at none =
-        saw first (accessed m h t k notes) (accessed_sound first m h L S t k free notes (λ n i. in_left n m.notes _ i)) t k (now_running m h L t k free)
-        (seen ((call.Read t k, Ok (reply.Value c.value c.write)) ∷ h)) c at
-        (λ u j n. off_key t k u j _ (seen h u j) n)
-        (at_key t k _ (seen h t k)
-        ∙ ap (λ o. seen_or o (Ok (reply.Value c.value c.write))) (L.reads t k ∙ ap (option_map (λ x. (x.value, x.seen.number))) none))
+        saw first (accessed_view m h t k notes) (accessed_sound first m h L S t k free notes (λ n i. in_left n m.notes _ i)) t k (now_running m h L t k free)
+        (sight_of ((call.Read t k, Ok (reply.Value c.value c.write)) ∷ h)) c at
+        (λ u j n. off_key t k u j _ (sight_of h u j) n)
+        (at_key t k _ (sight_of h t k)
+        ∙ ap (λ o. sight_or o (Ok (reply.Value c.value c.write))) (L.reads t k ∙ ap (option_map (λ x. (x.value, x.seen.number))) none))
         (λ u y n p l.
         let w = write_there m h L k u y p in
         let r = live_other m h L t k u n l in

@@ -1,26 +1,27 @@
 -- Every accepted read of a key by one transaction is answered alike.
 --   alike_step   what was answered alike before a call is so after it
+use Rattle.protocol.specs.Replies.{Response}
 use Rattle.std.proofs.Common.{◌≡◌, ℕ, Bool, true, false, cond, ◌&&◌, eqb, List, [], ◌∷◌, map, ℤ, Some, refl, ap, ◌∙◌, subst, Ok, Err}
 use Rattle.std.proofs.ByRecursion.{All-append, All-weaker}
 use Rattle.std.proofs.lemmas.Bool.{eqb-true}
 use Rattle.std.specs.Option.{option_map}
 use Rattle.std.specs.List.{AllByRecursion}
-use Rattle.register.specs.Calls.{Response, step, value_reply}
-use Rattle.register.specs.Model.{Model, Chooses}
-use Rattle.register.specs.declared.call.Call.{Call}
-use Rattle.register.specs.declared.call.Call.TheVariants as call
-use Rattle.register.specs.declared.call.Reply.TheVariants as reply
+use Rattle.protocol.specs.Calls.{step, value_response}
+use Rattle.protocol.specs.Model.{Model, Chooses}
+use Rattle.protocol.specs.declared.call.Call.{Call}
+use Rattle.protocol.specs.declared.call.Call.TheVariants as call
+use Rattle.protocol.specs.declared.call.Reply.TheVariants as reply
 use Rattle.serial.specs.Ledger.{History, value_in, reads_of}
 use Rattle.serial.proofs.Lines.ByKey.{at_key}
-use Rattle.serial.proofs.Ledger.Fates.{seen_or, seen}
-use Rattle.serial.proofs.Steps.Holding.{Saw, AlikeReads}
+use Rattle.serial.proofs.Ledger.Fates.{sight_or, sight_of}
 use Rattle.serial.proofs.Ledger.Linked.{Linked}
 use Rattle.serial.proofs.Ledger.Silent.{either}
 use Rattle.serial.proofs.Outcomes.Accesses.{read_cases}
+use Rattle.serial.proofs.Invariant.{Saw, AlikeReads}
 
 -- What was seen stays seen.
-seen_kept : (h : History) (t k u j : ℕ) (r : Response) (x : ℤ × ℕ) → seen h u j ≡ Some x → seen ((call.Read t k, r) ∷ h) u j ≡ Some x
-seen_kept h t k u j r x e = ap (λ o. cond (eqb t u && eqb k j) (seen_or o r) o) e ∙ either (eqb t u && eqb k j) (Some x) (Some x) refl
+seen_kept : (h : History) (t k u j : ℕ) (r : Response) (x : ℤ × ℕ) → sight_of h u j ≡ Some x → sight_of ((call.Read t k, r) ∷ h) u j ≡ Some x
+seen_kept h t k u j r x e = ap (λ o. cond (eqb t u && eqb k j) (sight_or o r) o) e ∙ either (eqb t u && eqb k j) (Some x) (Some x) refl
 
 -- A read whose value is what was seen.
 read_alike : (h : History) (t k : ℕ) (r : Response) → AlikeReads h
@@ -45,7 +46,7 @@ read_alike h t k r old now u =
 pub alike_step : (P : Chooses) (m : Model) (h : History) → Linked h m → AlikeReads h → (c : Call) → AlikeReads ((c, (step P m c).1) ∷ h)
 alike_step P m h L a (call.Begin t) = a
 alike_step P m h L a (call.Read t k) =
-    read_cases m t k (λ o. AlikeReads ((call.Read t k, value_reply o.1) ∷ h))
+    read_cases m t k (λ o. AlikeReads ((call.Read t k, value_response o.1) ∷ h))
     (λ e. read_alike h t k (Err e) a tt)
     (λ r _ at.
     let s = L.reads t k ∙ ap (option_map (λ x. (x.value, x.seen.number))) at in
@@ -53,7 +54,7 @@ alike_step P m h L a (call.Read t k) =
     (λ c _ _ _ _ none.
     let s = L.reads t k ∙ ap (option_map (λ x. (x.value, x.seen.number))) none in
     read_alike h t k (Ok (reply.Value c.value c.write)) a
-    ((c.write.number, at_key t k _ (seen h t k) ∙ ap (λ o. seen_or o (Ok (reply.Value c.value c.write))) s), tt))
+    ((c.write.number, at_key t k _ (sight_of h t k) ∙ ap (λ o. sight_or o (Ok (reply.Value c.value c.write))) s), tt))
 alike_step P m h L a (call.Prewrite t k v) = a
 alike_step P m h L a (call.Validate t g) = a
 alike_step P m h L a (call.Decide t) = a

@@ -2,23 +2,23 @@
 --   silent_stamped, turned_stamped   it lasts where nothing is said, and where a fate turns that has no stamp
 --   settled_stamped                  where a fate is settled
 --   committed_stamped                and where a decision gives a stamp
+use Rattle.protocol.specs.Replies.{Response}
 use Rattle.std.proofs.Common.{◌≡◌, ℕ, true, false, cond, ◌&&◌, eqb, ◌∷◌, ℤ, pos, Some, None, Option, sym, refl, ap, ◌∙◌, subst, ap₂, inl, inr, ⊎_elim, arith}
 use Rattle.std.proofs.Common.{Ok}
 use Rattle.std.proofs.lemmas.Int.{ints}
 use Rattle.std.proofs.lemmas.Bool.{cases_eq, eq-eqb, ne_eqb}
-use Rattle.wire.proofs.Clash.{clash}
-use Rattle.wire.specs.declared.stamp.Stamp.{Stamp}
-use Rattle.register.specs.declared.call.Call.{Call}
-use Rattle.register.specs.declared.call.Call.TheVariants as call
-use Rattle.register.specs.Calls.{Response}
-use Rattle.register.specs.declared.call.Reply.TheVariants as reply
+use Rattle.base.specs.declared.stamp.Stamp.{Stamp}
+use Rattle.protocol.specs.declared.call.Call.{Call}
+use Rattle.protocol.specs.declared.call.Call.TheVariants as call
+use Rattle.protocol.specs.declared.call.Reply.TheVariants as reply
 use Rattle.serial.specs.Ledger.{History, commits}
-use Rattle.serial.proofs.Ledger.InOrder.{Once}
-use Rattle.serial.proofs.Ledger.Fates.{Past, settled_at, fate, stamp_of}
-use Rattle.serial.proofs.Steps.Holding.{Suits, Stamped}
-use Rattle.serial.proofs.Lines.Member.{In, all_each}
+use Rattle.serial.proofs.Ledger.InOrder.{CommitsOnce}
+use Rattle.serial.proofs.Ledger.Fates.{Past, settled_fate, fate, stamp_of}
+use Rattle.serial.proofs.Lines.Member.{In}
 use Rattle.serial.proofs.Lines.RowKeys.{same_or_not}
 use Rattle.serial.proofs.Ledger.Silent.{Silent}
+use Rattle.serial.proofs.Invariant.{Suits, Stamped}
+use Rattle.serial.proofs.Lines.All.{all_each}
 
 -- What is said of a fate that is settled: its transaction has a stamp, which is both bounds.
 abbrev HasStamp : History → ℕ → ℤ → ℤ → Type 0
@@ -26,7 +26,7 @@ HasStamp h t l u = (c : ℕ) × (stamp_of h t ≡ Some c) × (l ≡ pos c) × (u
 
 -- A transaction has no stamp and a stamp.
 none_some : (o : Option ℕ) (c : ℕ) → o ≡ None → o ≡ Some c → ⊥
-none_some o c n s = clash cc
+none_some o c n s = absurd cc
 
 module _ (h : History) (s : Stamped h) where
   -- An entry that says nothing new, and is no decision that commits.
@@ -35,7 +35,7 @@ module _ (h : History) (s : Stamped h) where
     suits = λ t c g i. subst (Suits c) (sym (q.fates t g)) (s.suits t c g (sym (q.stamps t) ∙ i));
     settled = λ t g l u i.
         let p = s.settled t g l u (sym (q.fates t g) ∙ i) in (p.0, q.stamps t ∙ p.1, p.2, p.3);
-    once = subst Once (sym cs) s.once;
+    once = subst CommitsOnce (sym cs) s.once;
     listed = λ c i. q.stamps c.number ∙ s.listed c (subst (In c) cs i);
     found = λ t c i. subst (In (record { stamp = c; number = t })) (sym cs) (s.found t c (sym (q.stamps t) ∙ i));
   }
@@ -63,22 +63,22 @@ module _ (h : History) (s : Stamped h) where
         (λ (n : (eqb t a && eqb g j) ≡ false). s.settled a j l u (sym (others a j n) ∙ i))
         (same_or_not t g a j) in
         (p.0, q a ∙ p.1, p.2, p.3);
-    once = subst Once (sym cs) s.once;
+    once = subst CommitsOnce (sym cs) s.once;
     listed = λ c i. q c.number ∙ s.listed c (subst (In c) cs i);
     found = λ a c i. subst (In (record { stamp = c; number = a })) (sym cs) (s.found a c (sym (q a) ∙ i));
   }
 
   -- A settlement gives its transaction's stamp, if it has one, to both bounds.
-  pub settled_stamped : (t g : ℕ) → fate ((call.Settle t g, (Ok reply.Done)) ∷ h) t g ≡ settled_at (stamp_of h t)
+  pub settled_stamped : (t g : ℕ) → fate ((call.Settle t g, (Ok reply.Done)) ∷ h) t g ≡ settled_fate (stamp_of h t)
       → ((u j : ℕ) → (eqb t u && eqb g j) ≡ false → fate ((call.Settle t g, (Ok reply.Done)) ∷ h) u j ≡ fate h u j)
       → Stamped ((call.Settle t g, (Ok reply.Done)) ∷ h)
   settled_stamped t g own others =
       turned_stamped (call.Settle t g, (Ok reply.Done)) t g (λ u. refl) refl others
-      (λ c i. subst (Suits c) (sym (own ∙ ap settled_at i)) (omega (arith, ints), omega (arith, ints)))
+      (λ c i. subst (Suits c) (sym (own ∙ ap settled_fate i)) (omega (arith, ints), omega (arith, ints)))
       (λ l u i. bounds (stamp_of h t) refl l u (sym own ∙ i))
     where
-      bounds : (o : Option ℕ) → stamp_of h t ≡ o → (l u : ℤ) → settled_at o ≡ Past true l u → HasStamp h t l u
-      bounds None e l u i = clash cc
+      bounds : (o : Option ℕ) → stamp_of h t ≡ o → (l u : ℤ) → settled_fate o ≡ Past true l u → HasStamp h t l u
+      bounds None e l u i = absurd cc
       bounds (Some c) e l u i = (c, e, cc, cc)
 
   -- A decision to commit: nobody commits twice, and the stamp suits every ground.

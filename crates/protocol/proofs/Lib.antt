@@ -1,0 +1,2 @@
+-- Bounds.
+pub mod Raising

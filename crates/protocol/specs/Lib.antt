@@ -1,0 +1,15 @@
+pub mod AcrossGrounds
+pub mod AllCases
+pub mod Among
+pub mod AtOneCell
+pub mod BooksLeft
+pub mod Calls
+pub mod Cases
+pub mod Checks
+pub mod Decisions
+pub mod Model
+pub mod Noting
+pub mod RefusedCalls
+pub mod Replies
+pub mod Validation
+pub mod Worked
