@@ -1,35 +1,34 @@
--- A book to which what an access needs was added, or nothing.
---   room_kept    it has the room that it had
---   sound_kept   its rows stay sound
-use Rattle.std.proofs.Common.{◌≡◌, ℕ, List, ◌++◌, Some, None, Ok, Err, Option, Result, sym, refl, ap, ◌∙◌, subst, append-nil}
-use Rattle.book.specs.Books.{held, room}
-use Rattle.book.specs.declared.book.Book.{Book}
-use Rattle.wire.specs.declared.refusal.Refusal.{Refusal}
-use Rattle.wire.specs.Keys.{ground_of}
-use Rattle.lines.specs.Locks.{row_of}
-use Rattle.lines.specs.declared.row.Row.{Row}
-use Rattle.register.specs.Noting.{row_needed}
-use Rattle.register.specs.RowBook.{SoundRows}
-use Rattle.register.specs.Room.{AddedIfOk}
-use Rattle.register.proofs.RowBook.{sound_added, rows_sound}
+-- A first read or prewrite of a key: what it adds, and what it comes to.
+--   needed_none      a row is needed where there is none
+--   unwritten_none   a transaction that passes its check has no write line
+--   read_notes       as many notes as there are locks of others
+use Rattle.std.proofs.Common.{◌≡◌, ℕ, Bool, true, false, cond, map, length, is_none, Some, None, Ok, Option, Result, sym, refl, ap, ◌∙◌}
+use Rattle.std.proofs.lemmas.List.{length-map}
+use Rattle.std.specs.List.{list_any}
+use Rattle.base.proofs.Clash.{clash}
+use Rattle.base.specs.Refusals.{refused}
+use Rattle.base.specs.declared.refusal.Refusal.{Refusal}
+use Rattle.lines.specs.LineKeys.{write_key}
+use Rattle.protocol.specs.Checks.{check_unwritten, is_write_of}
+use Rattle.protocol.specs.Model.{Model}
+use Rattle.protocol.specs.Noting.{notes_of_read, before_note, write_locks, others}
+use Rattle.register.specs.Meetings.{met}
+use Rattle.register.proofs.Meetings.{all_of_others}
 
--- Rows with the one that an access needs.
-sound_needed : (rs : List Row) (t k : ℕ) → SoundRows rs → SoundRows (rs ++ row_needed (row_of rs t (ground_of k)) t (ground_of k))
-sound_needed rs t k s = go (row_of rs t (ground_of k)) refl
-  where
-    go : (o : Option Row) → row_of rs t (ground_of k) ≡ o → SoundRows (rs ++ row_needed o t (ground_of k))
-    go None e = sound_added rs t (ground_of k) e s
-    go (Some r) e = subst SoundRows (sym (append-nil rs)) s
+pub needed_none : {A : Type 0} (o : Option A) → is_none o ≡ true → o ≡ None
+needed_none None e = refl
+needed_none (Some x) e = clash cc
 
--- A book to which lines were added, or none, has the room that it had.
-pub room_kept : {L : Type 0} (r : Result Unit Refusal) (xs : List L) (b d : Book L) → AddedIfOk r xs b d → room d ≡ room b
-room_kept (Ok u) xs b d h = h.stays.room
-room_kept (Err e) xs b d h = ap room h
+module _ (m : Model) (t : ℕ) (e : check_unwritten m t ≡ Ok tt) where
+  pub unwritten_none : list_any (is_write_of t) m.writes ≡ false
+  unwritten_none = go (list_any (is_write_of t) m.writes) refl e
+    where
+      go : (b : Bool) → list_any (is_write_of t) m.writes ≡ b → cond {A = Result Unit Refusal} b (refused 7) (Ok tt) ≡ Ok tt → list_any (is_write_of t) m.writes ≡ false
+      go true h f = clash cc
+      go false h f = h
 
--- Its rows stay sound, where the row that an access needs was added, or none.
-pub sound_kept : (r : Result Unit Refusal) (xs : List Row) (b d : Book Row) (t k : ℕ) → AddedIfOk r xs b d
-    → xs ≡ row_needed (row_of (held b) t (ground_of k)) t (ground_of k) → ∥ SoundRows (held b) ∥₁ → ∥ SoundRows (held d) ∥₁
-sound_kept (Ok u) xs b d t k h e s =
-    let lines = h.lines ∙ ap (λ rs. held b ++ rs) e in
-    ∣ subst SoundRows (sym lines) (sound_needed (held b) t k (rows_sound (held b) s)) ∣₁
-sound_kept (Err e) xs b d t k h w s = subst (λ (x : Book Row). ∥ SoundRows (held x) ∥₁) (sym h) s
+  pub all_met : (k : ℕ) → met m.rows t k (map write_key m.writes) ≡ write_locks m k
+  all_met k = all_of_others m.rows t k m.writes unwritten_none
+
+  pub read_notes : (k : ℕ) → length (notes_of_read m t k) ≡ length (others t (write_locks m k))
+  read_notes k = length-map (write_locks m k) (before_note k t) ∙ ap length (sym (all_met k))

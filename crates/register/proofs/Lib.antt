@@ -1,18 +1,29 @@
--- The worked cases, computed.
--- What every call leans on: lines by their places, the rows that a register keeps, what is left after a refusal.
+-- What every call leans on.
+pub mod Distinct
+pub mod Sound
 pub mod Places
-pub mod RowBook
-pub mod Registers
--- Decisions.
-pub mod Deciding
--- The notes of a read and a prewrite.
-pub mod Meetings
+pub mod Rows
+mod Added
+mod Found
+-- Reads and prewrites.
+mod Meetings
 mod Accessing
--- Validation: bounds, the effect of a note, marks, lists, making way.
-pub mod Raising
-mod Effects
-mod RowPlaces
-mod Marking
-mod Gathering
+-- Decisions.
+mod Tallying
+pub mod Registers
+-- Two transactions at a ground.
+mod Relating
+mod Relations
+mod Joining
+-- Validation.
+mod Raising
 mod Pushing
 mod Validating
+-- Settlement.
+mod Settlements
+-- Calls one after the other.
+pub mod Kept
+-- Two registers at one validation.
+mod Agreements
+-- The days that calls make.
+pub mod Days

@@ -1,14 +1,26 @@
--- The notes for the soft locks that a call meets, where a closure gives the note for each holder.
---   Gives post n             the closure gives the note n u for the holder u, or nothing
---   Gathers post old us new  the notes for the holders us were added to the old ones
-use Rattle.std.specs.Prelude.{◌≡◌, ℕ, ◌^◌, ◌<◌, List, ◌++◌, Option}
-use Rattle.std.specs.List.{filter_map}
+-- What a read or a prewrite adds for the soft locks that it meets.
+--   is_met rows t k x   the line x stands as a lock of another than t on the key k
+--   met rows t k xs     the others than t whose locks stand on the key k, among the lines xs
+--   note_by s t k u     the note at the key k that says s of t, where u is the other
+use Rattle.std.specs.Prelude.{ℕ, Bool, ◌&&◌, List, ◌==◌, not}
+use Rattle.lines.specs.Locks.{lock_stands}
+use Rattle.lines.specs.declared.access.AccessKey.{AccessKey}
 use Rattle.lines.specs.declared.note.Note.{Note}
+use Rattle.lines.specs.declared.note.Side.{Side}
+use Rattle.lines.specs.declared.note.Side.TheVariants.{Earlier, Later, Apart}
+use Rattle.lines.specs.declared.row.Row.{Row}
+use Rattle.protocol.specs.Noting.{locks_on, others, before_note, apart_note}
 
--- What a call of the closure gives, by its post: a transaction's number has 32 bits.
-abbrev pub Gives : (ℕ → Option Note → Type 0) → (ℕ → Option Note) → Type 0
-Gives post n = (u : ℕ) (r : Option Note) → u < 2 ^ 32 → post u r → r ≡ n u
+-- A line that stands as a soft lock of another transaction on the key.
+abbrev pub is_met : List Row → (transaction key : ℕ) → AccessKey → Bool
+is_met rows t k x = (x.key == k && lock_stands rows x.transaction k) && not (x.transaction == t)
 
--- In the order of the holders, without those for whom it gives nothing.
-abbrev pub Gathers : (ℕ → Option Note → Type 0) → List Note → List ℕ → List Note → Type 0
-Gathers post old us new = (n : ℕ → Option Note) → Gives post n → new ≡ old ++ filter_map n us
+-- The holders of the locks that a transaction meets, without its own.
+abbrev pub met : List Row → (transaction key : ℕ) → List AccessKey → List ℕ
+met rows t k xs = others t (locks_on rows k xs)
+
+-- The note on a transaction and a holder.
+abbrev pub note_by : Side → (transaction key holder : ℕ) → Note
+note_by Earlier t k u = before_note k t u
+note_by Later t k u = before_note k u t
+note_by Apart t k u = apart_note k t u

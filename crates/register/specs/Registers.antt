@@ -2,30 +2,32 @@
 --   model cells r      its cells, the lines that its books hold, and their rooms
 --   rooms_in a b ..    the rooms of books in memories of these lengths
 --   Lent b m           the book b lies in the memory m, which is as it was
---   Keeps lent r s     what every call keeps: the policy, where all lies, and the memory past the lines held
+--   Keeps r s          what every call keeps: the policy, where the books lie, and the memory past the lines held
 --   KeepsButTransactions r s   s has the store of r, and its books but for the transactions
 --   KeepsButRows r s   s has the store of r, and its books but for the rows
---   Takes cells chosen r f range   the policy takes the range of what was found
-use Rattle.std.specs.Prelude.{◌≡◌, ℕ, min, List, ℤ}
+--   KeepsButRowsAndCells r s   s has the other books of r
+--   IsOfStamps range   both bounds are stamps, the lower not above the upper
+--   BegunAt r t i      the line of the transaction t has the place i
+--   LineAt r t l       l is the line of the transaction t with its place, or nothing
+use Rattle.std.specs.Prelude.{◌≡◌, ℕ, ◌<◌, min, List, length, nat_eq, Some, None, Option, ℤ, pos, ◌≤ℤ◌}
 use Rattle.std.specs.Borrow.{MutBor}
-use Rattle.book.specs.Books.{memory, held, room, Stays}
+use Rattle.book.specs.Books.{memory, room, Stays, lines_of, line_with, position_of}
 use Rattle.book.specs.declared.book.Book.{Book}
+use Rattle.base.specs.declared.stamp.TheConstants.{TOP}
+use Rattle.lines.specs.declared.transaction.Transaction.{Transaction}
 use Rattle.store.specs.Stores.{Cells}
-use Rattle.register.specs.Findings.{Marked}
-use Rattle.register.specs.Model.{Model, Chooses, Rooms}
-use Rattle.register.specs.Validation.{befores, afters}
+use Rattle.protocol.specs.Model.{Model, Rooms}
 use Rattle.register.specs.declared.register.Register.{Register}
-use Rattle.register.specs.declared.validation.findings.Findings.{Findings}
 
 -- What a register means, where a store means the cells that it has.
 abbrev pub model : {S P : Type 0} → (S → Cells) → Register S P → Model
 model cells r = record {
   cells = cells r.store;
-  transactions = held r.transactions;
-  rows = held r.rows.book;
-  reads = held r.reads;
-  writes = held r.writes;
-  notes = held r.notes;
+  transactions = lines_of r.transactions;
+  rows = lines_of r.rows.book;
+  reads = lines_of r.reads;
+  writes = lines_of r.writes;
+  notes = lines_of r.notes;
   rooms = record {
     transactions = room r.transactions;
     rows = room r.rows.book;
@@ -50,11 +52,9 @@ pub record Lent {L : Type 0} (b : Book L) (m : MutBor (List L)) : Type 0 where
   pub memory : memory b ≡ m.now
   pub named : b.lines.ghost_name ≡ m.ghost_name
 
--- What every call keeps, where a store tells the names of the memory that it was lent: the policy, where store and books lie, and what
--- lies past the lines that each book holds.
-pub record Keeps {S P : Type 0} (lent : S → List ℕ) (r s : Register S P) : Type 0 where
+-- What every call keeps: the policy, where the books lie, and what lies past the lines that each book holds.
+pub record Keeps {S P : Type 0} (r s : Register S P) : Type 0 where
   pub policy : s.policy ≡ r.policy
-  pub store : lent s.store ≡ lent r.store
   pub transactions : Stays r.transactions s.transactions
   pub rows : Stays r.rows.book s.rows.book
   pub reads : Stays r.reads s.reads
@@ -77,8 +77,25 @@ pub record KeepsButRows {S P : Type 0} (r s : Register S P) : Type 0 where
   pub writes : s.writes ≡ r.writes
   pub notes : s.notes ≡ r.notes
 
--- The range is what the policy takes of what was found, for whichever transaction and ground the marks come of.
-abbrev pub Takes : {S P : Type 0} → (S → Cells) → (P → Chooses) → Register S P → Findings → ℤ × ℤ → Type 0
-Takes cells chosen r f range =
-    (t g : ℕ) → Marked (held r.rows.book) (held r.notes) t g f
-    → range ≡ chosen r.policy f.range.lower f.range.upper (befores (model cells r) t g) (afters (model cells r) t g)
+-- What a settlement keeps beside that: it may change the rows and the cells.
+pub record KeepsButRowsAndCells {S P : Type 0} (r s : Register S P) : Type 0 where
+  pub transactions : s.transactions ≡ r.transactions
+  pub reads : s.reads ≡ r.reads
+  pub writes : s.writes ≡ r.writes
+  pub notes : s.notes ≡ r.notes
+
+-- A range of stamps, not empty.
+pub record IsOfStamps (range : ℤ × ℤ) : Type 0 where
+  pub least : pos 0 ≤ℤ range.0
+  pub order : range.0 ≤ℤ range.1
+  pub most : range.1 ≤ℤ pos TOP
+
+-- The place of a transaction's line.
+pub record BegunAt {S P : Type 0} (r : Register S P) (t i : ℕ) : Type 0 where
+  pub within : i < length (lines_of r.transactions)
+  pub position : position_of nat_eq (λ x. x.number) t (lines_of r.transactions) ≡ Some i
+
+-- The line of a transaction with its place, or nothing.
+abbrev pub LineAt : {S P : Type 0} → Register S P → ℕ → Option (ℕ × Transaction) → Type 0
+LineAt r t None = line_with nat_eq (λ x. x.number) t (lines_of r.transactions) ≡ None
+LineAt r t (Some p) = (line_with nat_eq (λ x. x.number) t (lines_of r.transactions) ≡ Some p.1) × BegunAt r t p.0

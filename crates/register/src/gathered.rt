@@ -2,15 +2,15 @@ ghost use Rattle.std.specs.Prelude.{◌≡◌, ◌<◌, ◌≤◌, List, [], ◌
 
 use std::marker::Model;
 
-// A list of at most N values. What a call works out is gathered here.
-// It lies in an array, since no call may allocate, and is no library's list, since one more crate would have to be trusted.
+/// A list of at most N values. What a call works out is gathered here.
+/// It lies in an array, since no call may allocate, and is no library's list, since one more crate would have to be trusted.
 #[derive(Drop)]
 pub struct Gathered<T, const N: usize> {
     values: [T; N],
     count: usize,
 }
 
-// Clauses see the values, in the order in which they were added.
+/// Clauses see the values, in the order in which they were added.
 impl<T, const N: usize> Model for Gathered<T, N> {
     ghost Value = { List T };
 
@@ -20,7 +20,7 @@ impl<T, const N: usize> Model for Gathered<T, N> {
 }
 
 impl<T: Copy, const N: usize> Gathered<T, N> {
-    // An empty list. The blank lies where no value is yet.
+    /// An empty list. The blank lies where no value is yet.
     pub fn new(blank: T) -> Gathered<T, N>
         ensures { result ≡ [] }
     {
@@ -30,7 +30,7 @@ impl<T: Copy, const N: usize> Gathered<T, N> {
         }
     }
 
-    // Adds a value at the end.
+    /// Adds a value at the end.
     pub fn push(&mut self, value: T)
         requires { length self.old < N }
         ensures { self.new ≡ self.old ++ value ∷ [] }
@@ -39,7 +39,7 @@ impl<T: Copy, const N: usize> Gathered<T, N> {
         self.count += 1;
     }
 
-    // The values, in their order.
+    /// The values, in their order.
     pub fn as_slice(&self) -> &[T]
         ensures { result.now ≡ self.now }
     {

@@ -1,12 +1,15 @@
-// The register: the calls that are made on it, and what they answer.
+//! The register: the calls that are made on it, and what they answer.
 #![tactic(auto)]
 
-pub mod call;
-pub mod cases;
+mod access;
+mod agreement;
+mod ending;
 mod gathered;
-mod noting;
 mod range;
-pub mod register;
-mod replacing;
+mod register;
+mod relation;
 mod row_book;
 mod validation;
+
+pub use agreement::{Verdict, validate_both};
+pub use register::Register;

@@ -1,5 +1,5 @@
 use Rattle.std.proofs.Common.{◌≡◌, ℤ, ap, w32, to_z, of_z, rules}
-use Rattle.register.specs.Among.{raise}
+use Rattle.protocol.specs.Among.{raise}
 use Rattle.register.proofs.range.Range.above.Goals as goal
 
 pub returns : goal.returns

@@ -1,5 +1,5 @@
 use Rattle.std.proofs.Common.{◌≡◌, ℤ, ap, w32, to_z, of_z, rules}
-use Rattle.register.specs.Among.{lower}
+use Rattle.protocol.specs.Among.{lower}
 use Rattle.register.proofs.range.Range.below.Goals as goal
 
 pub returns : goal.returns

@@ -1,35 +1,66 @@
-use Rattle.std.proofs.Common.{◌≤◌, sym, refl, ap, ◌∙◌, subst, rules}
-use Rattle.register.specs.Room.{one_if}
-use Rattle.register.proofs.Accessing.{room_kept, sound_kept}
-use Rattle.register.proofs.Registers.{same_register, same_rows, refuses}
+use Rattle.std.proofs.Common.{◌≡◌, List, ◌++◌, map, Some, None, Ok, sym, ap, ◌∙◌, subst, rules}
+use Rattle.book.specs.Books.{lines_of}
+use Rattle.lines.specs.LineKeys.{write_key}
+use Rattle.lines.specs.declared.access.AccessKey.{AccessKey}
+use Rattle.lines.specs.declared.access.WriteLine.{WriteLine}
+use Rattle.protocol.specs.Checks.{check_unwritten}
+use Rattle.protocol.specs.Model.{read_of}
+use Rattle.protocol.specs.Noting.{before_note, notes_of_read}
+use Rattle.register.specs.Meetings.{met}
+use Rattle.register.specs.Registers.{model}
+use Rattle.register.specs.Sound.{SoundLines}
+use Rattle.register.proofs.Accessing.{all_met, read_notes}
+use Rattle.register.proofs.Found.{finds_read}
+use Rattle.register.proofs.Registers.{same_lines, refuses}
+use Rattle.register.proofs.Sound.{lines_sound, read_added}
 use Rattle.register.proofs.register.Register.read.Goals as goal
 
-pub invariant_of-self : goal.invariant_of-self
-invariant_of-self g c =
+pub returns-in-Some-clause-model : goal.returns-in-Some-clause-model
+returns-in-Some-clause-model g c =
     let self = c.args.self.now in
-    let added = c.add_with.ensures in
-    let lines = room_kept _ _ _ _ added.lines in
-    let limits = self.limits in
+    let m = model g.S.Store.cells self in
+    let key : AccessKey = record { transaction = c.args.transaction; key = c.args.key } in
+    let found : read_of m c.args.transaction c.args.key ≡ Some c.in-Some.line = sym ((finds_read self key).first) ∙ sym c.in-Some.ensures in
     search rules
 
-pub returns-in_err-add_with-clause-refused : goal.returns-in_err-add_with-clause-refused
-returns-in_err-add_with-clause-refused g c =
-    let kept = c.in_err-add_with.ensures in
-    refuses _ (same_register _ _ (record {
-      store = refl;
-      policy = refl;
-      transactions = refl;
-      rows = same_rows _ _ kept.rows;
-      reads = kept.lines;
-      writes = refl;
-      notes = kept.notes;
-    }))
+pub returns-in_err-check_read_room-clause-model : goal.returns-in_err-check_read_room-clause-model
+returns-in_err-check_read_room-clause-model g c =
+    let self = c.args.self.now in
+    let m = model g.S.Store.cells self in
+    let key : AccessKey = record { transaction = c.args.transaction; key = c.args.key } in
+    let none : read_of m c.args.transaction c.args.key ≡ None = sym ((finds_read self key).first) ∙ sym c.in_default.ensures in
+    let unwritten : check_unwritten m c.args.transaction ≡ Ok tt = sym c.check_unwritten.ensures ∙ c.in_ok-check_unwritten.was in
+    let many = read_notes m c.args.transaction unwritten c.args.key in
+    search rules
 
-pub invariant_of-rows : goal.invariant_of-rows
-invariant_of-rows g c =
-    let rows = c.args.self.now.rows in
-    let added = c.add_with.ensures.rows in
+pub returns-in_err-check_read_room-clause-refused : goal.returns-in_err-check_read_room-clause-refused
+returns-in_err-check_read_room-clause-refused g c =
+    refuses _ (same_lines _ _)
+
+pub invariant_of-self-2 : goal.invariant_of-self-2
+invariant_of-self-2 g c =
+    let self = c.args.self.now in
+    let m = model g.S.Store.cells self in
+    let key : AccessKey = record { transaction = c.args.transaction; key = c.args.key } in
+    let none = sym ((finds_read self key).first) ∙ sym c.in_default.ensures in
     record {
-      few = subst (λ n. n ≤ 256) (sym (room_kept _ _ _ _ added)) rows.few;
-      sound = sound_kept _ _ _ _ _ _ added (ap one_if c.additions_of_read-additions.ensures.row ∙ c.in_ok-row.ensures.row) rows.sound;
+      sound =
+          ∣ subst (λ rs. SoundLines m.transactions rs m.writes) (sym c.add_line.ensures.lines)
+          (read_added m.transactions m.reads m.writes (lines_sound m.transactions m.reads m.writes self.sound) _ none) ∣₁;
     }
+
+pub returns-clause-model : goal.returns-clause-model
+returns-clause-model g c =
+    let self = c.args.self.now in
+    let m = model g.S.Store.cells self in
+    let t = c.args.transaction in
+    let k = c.args.key in
+    let key : AccessKey = record { transaction = t; key = k } in
+    let none : read_of m t k ≡ None = sym ((finds_read self key).first) ∙ sym c.in_default.ensures in
+    let unwritten : check_unwritten m t ≡ Ok tt = sym c.check_unwritten.ensures ∙ c.in_ok-check_unwritten.was in
+    let notes : lines_of c.add_notes.new.notes ≡ m.notes ++ notes_of_read m t k =
+    c.add_notes.ensures.lines
+    ∙ (ap (λ (ws : List WriteLine). m.notes ++ map (before_note k t) (met m.rows t k (map write_key ws))) c.lines.ensures
+    ∙ ap (λ us. m.notes ++ map (before_note k t) us) (all_met m t unwritten k)) in
+    let many = read_notes m t unwritten k in
+    search rules

@@ -1,72 +1,68 @@
-use Rattle.std.proofs.Common.{◌≡◌, true, false, ℤ, Some, None, Ok, sym, ap, ◌∙◌, subst, ap₂, w32, SFits, to_z, of_z, rules}
-use Rattle.std.proofs.lemmas.Int.{to_z-of_z}
-use Rattle.policy.specs.Ranges.{Within}
+use Rattle.std.proofs.Common.{◌≡◌, List, map, ℤ, Some, Ok, IfOk, sym, ap, ap₂, ◌∙◌, subst, rules}
+use Rattle.book.specs.Books.{lines_of}
+use Rattle.lines.specs.LineKeys.{row_key}
+use Rattle.lines.specs.Rows.{moved_row}
+use Rattle.lines.specs.declared.note.Note.{Note}
+use Rattle.lines.specs.declared.row.Event.TheVariants.{Pass}
+use Rattle.lines.specs.declared.row.Row.{Row}
+use Rattle.lines.specs.declared.row.RowKey.{RowKey}
+use Rattle.protocol.specs.Validation.{row_moved}
 use Rattle.register.specs.Registers.{model}
-use Rattle.register.specs.Validation.{floors, ceilings, passed}
-use Rattle.register.proofs.Validating.{found, validate_fails, validate_passes, with_rows_is, taken_limits}
+use Rattle.register.specs.Relations.{pushed_beside}
+use Rattle.register.specs.Sound.{PlacedAt}
+use Rattle.register.proofs.Pushing.{placed_pushed}
+use Rattle.register.proofs.Registers.{same_lines, refuses}
+use Rattle.register.proofs.Joining.{pushed_same}
+use Rattle.register.proofs.Rows.{stays_on}
+use Rattle.register.proofs.Sound.{rows_sound}
+use Rattle.register.proofs.Validating.{begun, passes_on, validate_passes, with_rows_is}
 use Rattle.register.proofs.register.Register.validate.Goals as goal
 
-pub move_row-requires : goal.move_row-requires
-move_row-requires g c = record { bounded = c.in-Some.ensures.bounded; fits = tt }
+pub returns-in_default-clause-refused : goal.returns-in_default-clause-refused
+returns-in_default-clause-refused g c = same_lines _ _
 
-pub returns-then-findings : goal.returns-then-findings
-returns-then-findings g c =
+pub returns-in_err-check_running-clause-refused : goal.returns-in_err-check_running-clause-refused
+returns-in_err-check_running-clause-refused g c = refuses _ (same_lines _ _)
+
+pub move_row-requires-2-clause-placed : goal.move_row-requires-2-clause-placed
+move_row-requires-2-clause-placed g c =
+    let rows = lines_of c.args.self.now.rows.book in
+    let found = c.in-Some.ensures in
+    let place = c.in-Some.place in
+    let own = row_key c.in-Some.row in
+    let range = c.choose-range.result in
+    subst (λ (rs : List Row). PlacedAt rs own place) (sym c.make_way.ensures.lines)
+    (placed_pushed c.lines.result.now c.args.transaction c.args.ground (range.lower, range.upper) rows own place
+    (subst (λ (k : RowKey). PlacedAt rows k place) (sym found.3) found.0))
+
+pub returns-clause-model : goal.returns-clause-model
+returns-clause-model g c =
     let self = c.args.self.now in
     let m = model g.S.Store.cells self in
-    let f = c.findings-findings in
-    record {
-      model =
-          ap (λ n. (n, Ok None)) (with_rows_is m _ _ _ c.move_row.ensures.lines c.move_row.ensures.stays.room)
-          ∙ validate_fails (g.P.Policy.chosen self.policy) m c.args.transaction c.args.ground c.in-Some.row _ _
-          (sym c.open_now.ensures ∙ c.in_ok-open_now.was) (sym c.in-Some.ensures.row) (sym c.running.ensures ∙ c.in_ok-running.was)
-          _ _ f.ensures.lower f.ensures.upper (found f.result.range.lower f.result.range.upper true (search rules) (search rules) c.if-findings.true);
-      refused = tt;
-      keeps = search rules;
-      rest = search rules;
-    }
-
-pub invariant_of-take_range : goal.invariant_of-take_range
-invariant_of-take_range g c =
-    let self = c.args.self.now in
-    let m = model g.S.Store.cells self in
+    let t = c.args.transaction in
+    let at = c.args.ground in
     let r = c.in-Some.row in
-    let f = c.findings-findings in
-    let range = c.choose-lower.result in
-    let chosen = c.choose-lower.ensures r.transaction r.ground f.ensures.marked in
-    let limits = taken_limits r _ _ (floors m r.transaction r.ground) (ceilings m r.transaction r.ground)
-    range c.in-Some.ensures.bounded f.ensures.lower f.ensures.upper
-    (found f.result.range.lower f.result.range.upper false (search rules) (search rules) c.if-findings.false)
-    (λ some. subst (Within f.result.range.lower f.result.range.upper) (sym chosen) (g.met.P.Policy.within self.policy _ _ _ _ some))
-    (search rules) (search rules) in
-    record {
-      lower_least = limits.lower_least;
-      lower_most = limits.lower_most;
-      upper_least = limits.upper_least;
-      upper_most = limits.upper_most;
-    }
+    let left = c.left-left in
+    let range = c.choose-range.result in
+    let taken : ℤ × ℤ = (range.lower, range.upper) in
+    let found = c.in-Some.ensures in
+    let run = sym c.check_running.ensures ∙ c.in_ok-check_running.was in
+    let moved = subst
+    (λ a. IfOk a (λ _. lines_of c.move_row-2.new.self.book ≡ row_moved r.transaction r.ground r c.pass.result (lines_of c.make_way.new.self.book)))
+    (c.move_row-2.ensures.answer ∙ (ap (λ e. (moved_row r e).1) c.pass.ensures ∙ passes_on r c.in_ok-check_running.field-0 range.lower range.upper run))
+    c.move_row-2.ensures.lines in
+    let lines = moved
+    ∙ (ap (λ e. row_moved r.transaction r.ground r e (lines_of c.make_way.new.self.book)) c.pass.ensures
+    ∙ ap₂ (λ (k : RowKey) (rs : List Row). row_moved k.transaction k.ground r (Pass range.lower range.upper) rs) found.3
+    (c.make_way.ensures.lines
+    ∙ (ap (λ (ns : List Note). map (pushed_beside ns t at taken) m.rows) c.lines.ensures
+    ∙ sym (pushed_same m.rows t at m.notes (rows_sound m.rows self.rows.sound).single taken)))) in
+    ap₂ (λ n p. (n, Ok (Some p))) (with_rows_is m _ _ _ lines (c.move_row-2.ensures.stays.room ∙ c.make_way.ensures.stays.room)) c.bounds.ensures
+    ∙ validate_passes (g.P.Policy.chosen self.policy) m t at r c.in_ok-check_running.field-0
+    (begun _ _ _ c.check_open.ensures.check c.in_ok-check_open.was) found.1 run _ _ left.ensures.lower left.ensures.upper (search rules) taken
+    c.choose-range.ensures.chosen
 
-pub returns : goal.returns
-returns g c =
-    let self = c.args.self.now in
-    let m = model g.S.Store.cells self in
-    let r = c.in-Some.row in
-    let f = c.findings-findings in
-    let range = c.choose-lower.result in
-    let chosen = c.choose-lower.ensures r.transaction r.ground f.ensures.marked in
-    let from : SFits w32 range.0 = search rules in
-    let to : SFits w32 range.1 = search rules in
-    let kept : ◌≡◌ {A = ℤ × ℤ} (to_z w32 (of_z w32 range.0), to_z w32 (of_z w32 range.1)) range =
-    ap₂ (λ (x y : ℤ). (x, y)) (to_z-of_z w32 range.0 from) (to_z-of_z w32 range.1 to) in
-    record {
-      model =
-          ap (λ n. (n, Ok (Some (to_z w32 (of_z w32 range.0), to_z w32 (of_z w32 range.1)))))
-          (with_rows_is m _ _ _ (c.take_range.ensures.lines m.notes r.transaction r.ground f.ensures.marked) c.take_range.ensures.stays.room)
-          ∙ (ap (λ (p : ℤ × ℤ). (passed m r.transaction r.ground r p, Ok (Some p))) kept
-          ∙ validate_passes (g.P.Policy.chosen self.policy) m c.args.transaction c.args.ground r _ _
-          (sym c.open_now.ensures ∙ c.in_ok-open_now.was) (sym c.in-Some.ensures.row) (sym c.running.ensures ∙ c.in_ok-running.was)
-          _ _ f.ensures.lower f.ensures.upper
-          (found f.result.range.lower f.result.range.upper false (search rules) (search rules) c.if-findings.false) range chosen);
-      refused = tt;
-      keeps = search rules;
-      rest = search rules;
-    }
+pub returns-clause-keeps : goal.returns-clause-keeps
+returns-clause-keeps g c =
+    let rows = stays_on _ _ _ c.make_way.ensures.stays c.move_row-2.ensures.stays in
+    search rules

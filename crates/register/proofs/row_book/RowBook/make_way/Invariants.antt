@@ -1,15 +1,16 @@
-use Rattle.std.proofs.Common.{◌≡◌, ℕ, List, ◌++◌, map, length, take, drop}
-use Rattle.book.specs.Books.{held, Stays}
-use Rattle.lines.specs.declared.note.Note.{Note}
-use Rattle.register.specs.Findings.{Marked}
-use Rattle.register.specs.Among.{pushed_among}
+use Rattle.std.proofs.Common.{◌≡◌, ◌++◌, map, length, take, drop}
+use Rattle.book.specs.Books.{Stays, lines_of}
+use Rattle.register.specs.Relations.{pushed_beside}
 use Rattle.register.proofs.row_book.RowBook.make_way.Given as goal
 
 -- The rows passed have made way, the others are as they were.
-abbrev pub invariant-loop-i : goal.invariant-loop-i
-invariant-loop-i l =
-    let rows = held l.initial.self.book in
-    ((notes : List Note) (t g : ℕ) → Marked rows notes t g l.findings
-    → held l.self.book ≡ map (pushed_among rows notes t g (l.range.lower, l.range.upper)) (take l.i rows) ++ drop l.i rows)
-    × Stays l.initial.self.book l.self.book
-    × (length (held l.self.book) ≡ length rows)
+abbrev pub invariant-loop-place : goal.invariant-loop-place
+invariant-loop-place l =
+    let rows = lines_of l.initial.self.book in
+    record {
+      lines :
+          lines_of l.self.book
+          ≡ map (pushed_beside l.notes l.own.transaction l.own.ground (l.range.lower, l.range.upper)) (take l.place rows) ++ drop l.place rows;
+      stays : Stays l.initial.self.book l.self.book;
+      long : length (lines_of l.self.book) ≡ length rows;
+    }

@@ -1,6 +1,6 @@
 use Rattle.std.proofs.Common.{◌≤◌, sym, subst, arith}
-use Rattle.register.specs.RowBook.{SoundRows}
-use Rattle.register.proofs.RowBook.{no_rows_sound}
+use Rattle.register.specs.Sound.{SoundRows}
+use Rattle.register.proofs.Sound.{no_rows_sound}
 use Rattle.register.proofs.row_book.RowBook.new.Goals as goal
 
 pub invariant_of-result : goal.invariant_of-result
