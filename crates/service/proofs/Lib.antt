@@ -1,0 +1,5 @@
+mod Pairs
+mod ProgramDay
+mod Promises
+mod Reading
+mod Writing

@@ -1,0 +1,4 @@
+pub mod Answered
+pub mod Counter
+pub mod Served
+pub mod Streams
