@@ -1,1 +1,4 @@
-pub mod Texts
+pub mod Across
+pub mod Amid
+pub mod Prints
+pub mod Streams

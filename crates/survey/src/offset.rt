@@ -1,12 +1,16 @@
-ghost use Rattle.std.specs.Prelude.{◌≡◌, Some};
+ghost use Rattle.std.specs.Prelude.{◌≡◌, ◌≤◌, length};
 ghost use Rattle.survey.specs.declared.offset.Direction.TheVariants.{East, West, North, South};
-ghost use Rattle.std.specs.Fmt.{styled_text};
-ghost use Rattle.survey.specs.Offsets.{told, value_told, name_of};
+ghost use Rattle.survey.specs.Offsets.{direction_name, offset_of, offset_value};
 ghost use Rattle.survey.specs.Texts.{offset_text};
 
-use std::fmt;
+use crate::column::{push_left, push_right};
+use arrayvec::ArrayString;
+use itoa::Buffer;
 
-// Where a grave lies from the chapel door, along one of two lines.
+/// Room for the text of any offset, in bytes.
+pub const OFFSET_TEXT: usize = 19;
+
+/// Which way a grave lies from the chapel door.
 #[derive(Clone, Copy, PartialEq, Eq, Debug)]
 pub enum Direction {
     East,
@@ -15,7 +19,8 @@ pub enum Direction {
     South,
 }
 
-// How far a grave lies from the chapel door along one axis, as it is said aloud: a direction, metres, and decimetres below ten.
+/// How far a grave lies from the chapel door along one axis: in a direction, whole metres and decimetres more, which are 0 to 3,276 and
+/// 0 to 9 where a value says them.
 #[derive(Clone, Copy, PartialEq, Eq, Debug)]
 pub struct Offset {
     pub direction: Direction,
@@ -23,9 +28,9 @@ pub struct Offset {
     pub decimetres: u16,
 }
 
-// A value in decimetres, told in one of two opposite directions.
-fn tell(value: i16, ahead: Direction, behind: Direction) -> Offset
-    ensures { result ≡ told ahead behind value }
+// A value in decimetres as an offset in one of two opposite directions.
+fn offset_of(value: i16, ahead: Direction, behind: Direction) -> Offset
+    ensures { result ≡ offset_of ahead behind value }
 {
     let size = value.unsigned_abs();
     let direction = if value < 0 { behind } else { ahead };
@@ -37,28 +42,28 @@ fn tell(value: i16, ahead: Direction, behind: Direction) -> Offset
 }
 
 impl Offset {
-    // What a value of the field east says: east, or west where it is negative.
-    // East and north are two functions over `tell`, since a type of the two axes would only say their names once more.
+    /// What a value of the field east says: east, or west where it is negative.
     pub fn east(value: i16) -> Offset
-        ensures value { result ≡ told East West value }
-        ensures back { value_told result ≡ value }
+        ensures value { result ≡ offset_of East West value }
+        ensures back { offset_value result ≡ value }
     {
-        tell(value, Direction::East, Direction::West)
+        offset_of(value, Direction::East, Direction::West)
     }
 
-    // What a value of the field north says: north, or south where it is negative.
+    /// What a value of the field north says: north, or south where it is negative.
     pub fn north(value: i16) -> Offset
-        ensures value { result ≡ told North South value }
-        ensures back { value_told result ≡ value }
+        ensures value { result ≡ offset_of North South value }
+        ensures back { offset_value result ≡ value }
     {
-        tell(value, Direction::North, Direction::South)
+        offset_of(value, Direction::North, Direction::South)
     }
 }
 
 impl Direction {
-    // The direction in a word, for whoever may not allocate.
+    /// The direction in a word of at most 5 bytes.
     pub fn name(self) -> &'static str
-        ensures { result.now ≡ name_of self }
+        ensures name { result.now ≡ direction_name self }
+        ensures short { length result.now ≤ 5 }
     {
         match self {
             Direction::East => "east",
@@ -69,26 +74,17 @@ impl Direction {
     }
 }
 
-// The word, in any column that is asked for.
-impl fmt::Display for Direction {
-    ghost output = { λ d. Some (name_of d) };
-
-    ghost styled_output = { λ d s. Some (styled_text s (name_of d)) };
-
-    fn fmt<W: fmt::Write>(&self, f: &mut fmt::Formatter<W>) -> fmt::Result {
-        f.pad(self.name())
-    }
-}
-
-// As it is said aloud, in fourteen places.
-impl fmt::Display for Offset {
-    ghost output = { λ o. Some (offset_text o) };
-
-    fn fmt<W: fmt::Write>(&self, f: &mut fmt::Formatter<W>) -> fmt::Result {
-        write!(
-            f,
-            "{:>4}.{} m {:<5}",
-            self.metres, self.decimetres, self.direction
-        )
+impl Offset {
+    /// The offset as it is said aloud: metres in four places, a point, decimetres, and the direction in five.
+    pub fn text(self) -> ArrayString<{ OFFSET_TEXT }>
+        ensures { result.bytes ≡ offset_text self }
+    {
+        let mut text = ArrayString::new();
+        push_right(&mut text, 4, Buffer::new().format(self.metres));
+        text.push_str(".");
+        text.push_str(Buffer::new().format(self.decimetres));
+        text.push_str(" m ");
+        push_left(&mut text, 5, self.direction.name());
+        text
     }
 }

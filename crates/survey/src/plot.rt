@@ -1,10 +1,10 @@
-ghost use Rattle.std.specs.Prelude.{◌≡◌};
-ghost use Rattle.survey.specs.Plots.{field_value, plot_in, fields_of};
+ghost use Rattle.std.specs.Prelude.{◌≡◌, ◌≤◌};
+ghost use Rattle.survey.specs.Plots.{field_value, plot_in, field_count};
 
-use store::store::Store;
-use wire::place::{Field, Place};
+use base::{Field, Place};
+use store::Store;
 
-// What a store holds of one plot: the value of each field that it has.
+/// What a store holds of one plot: the value of each field that it has.
 #[derive(Clone, Copy, PartialEq, Eq, Debug)]
 pub struct Plot {
     pub east: Option<i16>,
@@ -22,8 +22,7 @@ fn field_value<S: Store>(store: &S, ground: u16, plot: u16, field: Field) -> Opt
 }
 
 impl Plot {
-    // The fields of a ground's plot, each where the store has it.
-    // Ground and plot are two numbers, since a type of both would be a `Place` without its field.
+    /// The fields of a ground's plot, each where the store has it; none of a ground above 7 or a plot above 2,047.
     pub fn fetch<S: Store>(store: &S, ground: u16, plot: u16) -> Plot
         ensures { result ≡ plot_in (S.Store.cells store.now) ground plot }
     {
@@ -35,9 +34,10 @@ impl Plot {
         }
     }
 
-    // How many of the four fields are there.
+    /// How many of the four fields are there.
     pub fn fields(&self) -> usize
-        ensures { result ≡ fields_of self.now }
+        ensures value { result ≡ field_count self.now }
+        ensures bound { result ≤ 4 }
     {
         [self.east, self.north, self.holder, self.status]
             .iter()
