@@ -1,6 +1,4 @@
-use policy::near::Near;
-use policy::policy::Policy;
-use policy::whole::Whole;
+use policy::{Near, Policy, Whole};
 
 #[test]
 fn whole_takes_all(rt: HostRuntime) {

@@ -1,13 +1,11 @@
 use crate::calls::{
-    ABORTED, ALL, DONE, Memory, THREE_CELLS, begin, commit, decide, eight_grounds, play, prewrite,
-    range, read, validate, value,
+    ABORTED, ALL, DONE, begin, commit, decide, play, prewrite, range, read, validate, value,
 };
-use policy::near::Near;
-use store::memory::flat::Flat;
-use store::memory::sparse::Sparse;
-use store::split::Split;
-use wire::refusal::Refusal;
-use wire::stamp::TOP;
+use crate::fixtures::{Memory, THREE_CELLS, eight_grounds};
+use base::{Refusal, TOP};
+use image::{Flat, Sparse};
+use policy::Near;
+use store::Split;
 
 // The write stamp of ground g is 10 ((g + 4) mod 8), and its value -32,768 + g: as low as a value can be, and on each ground another. The
 // largest lower bound, 71, is that of ground 3.

@@ -1,10 +1,11 @@
 use crate::calls::{
-    ABORTED, ALL, DONE, Memory, THREE_CELLS, begin, commit, decide, play, prewrite, range, read,
-    validate, value, withdraw,
+    ABORTED, ALL, DONE, begin, commit, decide, play, prewrite, range, read, validate, value,
+    withdraw,
 };
-use policy::near::Near;
-use store::memory::sparse::Sparse;
-use wire::refusal::Refusal;
+use crate::fixtures::{Memory, THREE_CELLS};
+use base::Refusal;
+use image::Sparse;
+use policy::Near;
 
 #[test]
 fn a_withdrawal_leaves_the_lock(rt: HostRuntime) {

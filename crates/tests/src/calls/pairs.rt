@@ -1,14 +1,12 @@
 use crate::calls::{
-    ABORTED, DONE, Memory, Response, THREE_CELLS, begin, commit, decide, play, prewrite, range,
-    read, validate, value,
+    ABORTED, DONE, Response, begin, commit, decide, play, prewrite, range, read, validate, value,
 };
-use policy::near::Near;
-use policy::policy::Policy;
-use policy::whole::Whole;
-use register::call::Call;
+use crate::fixtures::{Memory, THREE_CELLS};
+use base::Refusal;
+use image::Sparse;
+use policy::{Near, Policy, Whole};
+use protocol::Call;
 use std::process::Abort;
-use store::memory::sparse::Sparse;
-use wire::refusal::Refusal;
 
 // What a transaction does with key 0.
 #[derive(Clone, Copy)]
@@ -136,39 +134,4 @@ fn a_writer_leaves_no_earlier_stamps_to_a_reader(rt: HostRuntime) {
 fn two_writers_take_stamps_apart(rt: HostRuntime) {
     let near = [passes(1, 1024), passes(1025, 268_435_455)];
     meet_both(&rt, [Access::Writes, Access::Writes], near);
-}
-
-// A cell with write stamp 70 and read stamp 74.
-const STAMPED: [u32; 4] = [0x8000_0000, 0x9000_0000, 0xE000_0046, 0xF000_004A];
-
-#[test]
-fn a_reader_goes_above_the_write_stamp(rt: HostRuntime) {
-    let mut words = STAMPED;
-    let mut memory = Memory::<1, 1, 1, 0, 0>::blank();
-    let mut register = memory.register(Sparse::new(&mut words), Near);
-    play(
-        &rt,
-        &mut register,
-        &[
-            (begin(1), DONE),
-            (read(1, 0), value(0, 70)),
-            (validate(1, 0), range(71, 268_435_455)),
-        ],
-    );
-}
-
-#[test]
-fn a_writer_goes_above_both_stamps(rt: HostRuntime) {
-    let mut words = STAMPED;
-    let mut memory = Memory::<1, 1, 0, 1, 0>::blank();
-    let mut register = memory.register(Sparse::new(&mut words), Near);
-    play(
-        &rt,
-        &mut register,
-        &[
-            (begin(1), DONE),
-            (prewrite(1, 0, -7), DONE),
-            (validate(1, 0), range(75, 268_435_455)),
-        ],
-    );
 }

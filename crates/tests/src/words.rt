@@ -1,14 +1,12 @@
-use std::process::Abort;
+use base::value::{bits_of, value_of};
+use base::{Field, Place, Refusal, Stamp, TOP};
+use image::{Cause, Fault};
 use std::test::Fail;
 use survey::offset::{Direction, Offset};
-use wire::answer::{Answer, AnswerWords};
-use wire::bytes::words_in;
-use wire::place::{Field, Place};
-use wire::refusal::Refusal;
-use wire::stamp::{Stamp, TOP};
-use wire::value::{bits_of, value_of};
+use wire::bytes::fill_words;
 use wire::word::{
-    StampKind, WordFault, key_in, key_word, stamp_in, stamp_word, value_in, value_word,
+    StampKind, WordFault, aborted_word, done_word, key_in, key_word, refusal_word, stamp_in,
+    stamp_word, value_in, value_word,
 };
 
 #[test]
@@ -77,56 +75,30 @@ fn bad_words_are_told_apart(rt: HostRuntime) {
     assert_eq!(rt; value_in(0x0000_0000), Err(WordFault::WrongKind));
 }
 
-// Whether an answer has these words.
-fn says(rt: &impl Abort, answer: Answer, first: u32, second: Option<u32>) {
-    assert_eq!(rt; answer.words(), AnswerWords { first, second });
-}
-
 #[test]
 fn answers_have_their_words(rt: HostRuntime) {
-    let stamp = Stamp::in_word(1);
-    let upper = Stamp::in_word(TOP);
-    says(&rt, Answer::Done { pairs: 0 }, 0xA000_0000, None);
-    says(&rt, Answer::Done { pairs: 64 }, 0xA000_0040, None);
-    says(
-        &rt,
-        Answer::Value { value: -7, stamp },
-        0x9000_FFF9,
-        Some(0xB000_0001),
+    assert_eq!(rt; done_word(0), 0xA000_0000);
+    assert_eq!(rt; done_word(64), 0xA000_0040);
+    assert_eq!(rt;
+        stamp_word(StampKind::Answer, Stamp::in_word(1)),
+        0xB000_0001
     );
-    says(
-        &rt,
-        Answer::Range {
-            lower: stamp,
-            upper,
-        },
-        0xB000_0001,
-        Some(0xBFFF_FFFF),
-    );
-    says(&rt, Answer::Committed { stamp }, 0xB000_0001, None);
-    says(&rt, Answer::Aborted, 0xC000_0000, None);
-    let refusal = Refusal::Malformed;
-    says(
-        &rt,
-        Answer::Refused { pairs: 0, refusal },
-        0xD000_000C,
-        None,
-    );
-    let refusal = Refusal::NoSuchKey;
-    says(
-        &rt,
-        Answer::Refused { pairs: 1, refusal },
-        0xD001_000B,
-        None,
-    );
+    assert_eq!(rt; aborted_word(), 0xC000_0000);
+    assert_eq!(rt; refusal_word(0, Refusal::Malformed), 0xD000_000C);
+    assert_eq!(rt; refusal_word(1, Refusal::NoSuchKey), 0xD001_000B);
 }
 
 #[test]
-fn bytes_come_lowest_first(rt: HostRuntime) -> Result<(), Fail> {
-    let (words, left) = words_in(rt.alloc(), &[0, 0, 1, 0x10, 0xFF, 0xFF, 0, 0x90, 7])?;
-    assert_eq!(rt; words.as_slice(), [0x1001_0000, 0x9000_FFFF].as_slice());
-    assert_eq!(rt; left, 1);
-    Ok(())
+fn bytes_come_lowest_first(rt: HostRuntime) {
+    let bytes = [0, 0, 1, 0x10, 0xFF, 0xFF, 0, 0x90, 7];
+    let mut words = [1, 2, 3];
+    assert_eq!(rt; fill_words(&mut words, &bytes), 1);
+    assert_eq!(rt; words, [0x1001_0000, 0x9000_FFFF, 3]);
+    let mut few = [1];
+    assert_eq!(rt; fill_words(&mut few, &bytes), 1);
+    assert_eq!(rt; few, [0x1001_0000]);
+    assert_eq!(rt; fill_words(&mut few, &bytes[..3]), 3);
+    assert_eq!(rt; few, [0x1001_0000]);
 }
 
 #[test]
@@ -136,6 +108,24 @@ fn refusals_say_their_cause(rt: HostRuntime) -> Result<(), Fail> {
     assert_eq!(rt;
         Refusal::NoSuchKey.to_string(rt.alloc())?.as_str(),
         "the store has no such key"
+    );
+    Ok(())
+}
+
+#[test]
+fn faults_say_their_cause_and_line(rt: HostRuntime) -> Result<(), Fail> {
+    let heap = rt.alloc();
+    let cause = Cause::StrayBits;
+    assert_eq!(rt; cause.to_string(heap)?.as_str(), "a word has stray bits");
+    let fault = Fault { cause, line: None };
+    assert_eq!(rt; fault.to_string(heap)?.as_str(), "a word has stray bits");
+    let fault = Fault {
+        cause,
+        line: Some(40),
+    };
+    assert_eq!(rt;
+        fault.to_string(heap)?.as_str(),
+        "a word has stray bits, line 40 (the first is 0)"
     );
     Ok(())
 }

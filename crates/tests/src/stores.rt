@@ -1,14 +1,9 @@
+use base::{Refusal, Stamp};
+use image::{Cause, Fault, Flat, Sparse, check_boundary, check_flat, check_sparse};
 use std::alloc::{AllocError, Global};
 use std::test::Fail;
-use store::cell::Cell;
-use store::fault::{Cause, Fault};
-use store::memory::flat::{Flat, check_flat};
-use store::memory::sparse::{Sparse, check_sparse};
-use store::split::{Split, check_boundary};
-use store::store::Store;
-use survey::image::check_image;
-use wire::refusal::Refusal;
-use wire::stamp::Stamp;
+use store::{Cell, Split, Store};
+use survey::printing::check_image;
 
 const V: u32 = 0x9000_0000;
 
@@ -40,10 +35,11 @@ fn at(cause: Cause, line: usize) -> Result<(), Fault> {
 
 #[test]
 fn a_cell_is_three_words(rt: HostRuntime) {
-    let words = [0x9000_FFEC, W + 3, R + 5];
-    assert_eq!(rt; <[u32; 3]>::from(cell(-20)), words);
-    assert_eq!(rt; Cell::try_from(words), Ok(cell(-20)));
-    assert_eq!(rt; Cell::try_from([V, R, W]), Err(Cause::WrongKind));
+    let mut words = [V, W, R];
+    let mut store = Flat::new(0, &mut words);
+    assert_eq!(rt; store.put(0, cell(-20)), Ok(()));
+    assert_eq!(rt; store.fetch(0), Some(cell(-20)));
+    assert_eq!(rt; words.as_slice(), [0x9000_FFEC, W + 3, R + 5].as_slice());
 }
 
 #[test]

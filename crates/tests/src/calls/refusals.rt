@@ -1,18 +1,15 @@
 use crate::calls::{
-    ABORTED, ALL, DONE, Memory, THREE_CELLS, begin, commit, decide, make, play, prewrite, read,
-    validate, value, withdraw,
+    ABORTED, ALL, DONE, begin, commit, decide, play, prewrite, read, validate, value, withdraw,
 };
-use policy::near::Near;
-use policy::policy::Policy;
-use policy::whole::Whole;
-use register::register::Register;
+use crate::fixtures::{Memory, THREE_CELLS};
+use base::Refusal;
+use image::Sparse;
+use policy::{Near, Policy};
+use register::Register;
 use std::process::Abort;
-use store::memory::sparse::Sparse;
-use store::store::Store;
-use wire::refusal::Refusal;
-use wire::stamp::TOP;
+use store::Store;
 
-// Every call that is code, but begin, refuses a transaction with the same refusal, whatever key or ground it names.
+// Every call but begin and settle refuses a transaction with the same refusal, whatever key or ground it names.
 fn refuse_all<S: Store, P: Policy>(
     rt: &impl Abort,
     register: &mut Register<'_, S, P>,
@@ -31,7 +28,7 @@ fn refuse_all<S: Store, P: Policy>(
         withdraw(transaction),
     ];
     for call in calls {
-        assert_eq!(rt; make(rt, register, call), Err(refusal), "{call:?}");
+        assert_eq!(rt; register.call(call), Err(refusal), "{call:?}");
     }
 }
 
@@ -133,44 +130,5 @@ fn a_validation_asks_for_a_row_and_then_for_its_state(rt: HostRuntime) {
             (validate(1, 0), Err(Refusal::NotRunning)),
             (validate(1, 1), Err(Refusal::NoRow)),
         ],
-    );
-}
-
-// Key 0 has no stamp left, so its row is Aborted; the decision waits for the other row all the same.
-#[test]
-fn a_decision_waits_for_every_row(rt: HostRuntime) {
-    let mut words = THREE_CELLS;
-    words[2] = 0xE000_0000 + TOP;
-    let mut memory = Memory::<1, 2, 2, 0, 0>::blank();
-    let mut register = memory.register(Sparse::new(&mut words), Whole);
-    play(
-        &rt,
-        &mut register,
-        &[
-            (begin(1), DONE),
-            (read(1, 0), value(0, TOP)),
-            (read(1, 8192), value(0, 0)),
-            (decide(1), Err(Refusal::StillRunning)),
-            (validate(1, 0), ABORTED),
-            (validate(1, 0), Err(Refusal::NotRunning)),
-            (read(1, 0), Err(Refusal::NotRunning)),
-            (prewrite(1, 0, 1), Err(Refusal::NotRunning)),
-            (decide(1), Err(Refusal::StillRunning)),
-            (validate(1, 1), ALL),
-            (decide(1), ABORTED),
-            (decide(1), Err(Refusal::AlreadyDecided)),
-        ],
-    );
-}
-
-#[test]
-fn who_touched_nothing_commits_at_0(rt: HostRuntime) {
-    let mut words = THREE_CELLS;
-    let mut memory = Memory::<1, 0, 0, 0, 0>::blank();
-    let mut register = memory.register(Sparse::new(&mut words), Near);
-    play(
-        &rt,
-        &mut register,
-        &[(begin(1), DONE), (decide(1), commit(0))],
     );
 }

@@ -1,8 +1,7 @@
-use book::book::Book;
-use book::line::Line;
+use base::Refusal;
+use book::{Book, Line};
 use std::process::Abort;
 use std::test::Fail;
-use wire::refusal::Refusal;
 
 // A line with its key, and a mark to tell lines of one key apart.
 #[derive(Clone, Copy, PartialEq, Debug)]

@@ -1,4 +1,5 @@
-use book::book::Book;
+use base::{Refusal, Stamp};
+use book::Book;
 use lines::access::{AccessKey, READS, WRITES};
 use lines::lock::lock_stands;
 use lines::note::{Effect, NOTES, Note, Order};
@@ -6,8 +7,6 @@ use lines::row::{Event, ROWS, Row, RowKey, State};
 use lines::transaction::TRANSACTIONS;
 use std::process::Abort;
 use std::test::Fail;
-use wire::refusal::Refusal;
-use wire::stamp::Stamp;
 
 const PASS: Event = Event::Pass { lower: 5, upper: 9 };
 
@@ -75,14 +74,14 @@ fn finished_rows_stay(rt: HostRuntime) -> Result<(), Fail> {
     Ok(())
 }
 
-// What follows for transaction 1 from a note and the other party's row, with bounds 3 and 12.
+// What follows for transaction 1 from a note, where the other party's row, with bounds 3 and 12, is Running, Validated, Committed or Aborted.
 fn follows(
     rt: &impl Abort,
     first: u32,
     second: u32,
     order: Order,
-    state: State,
-    effect: Option<Effect>,
+    running: Option<Effect>,
+    passed: Option<Effect>,
 ) {
     let note = Note {
         key: 8192,
@@ -90,97 +89,31 @@ fn follows(
         second,
         order,
     };
-    assert_eq!(rt; note.effect(1, &row(state, 3, 12)), effect);
-}
-
-#[test]
-fn a_transaction_before_the_other(rt: HostRuntime) {
-    follows(
-        &rt,
-        1,
-        2,
-        Order::Before,
-        State::Running,
-        Some(Effect::JoinAfter),
-    );
-    follows(
-        &rt,
-        1,
-        2,
-        Order::Before,
-        State::Validated,
-        Some(Effect::LowerBelow(3)),
-    );
-    follows(
-        &rt,
-        1,
-        2,
-        Order::Before,
-        State::Committed,
-        Some(Effect::LowerBelow(3)),
-    );
-    follows(&rt, 1, 2, Order::Before, State::Aborted, None);
-}
-
-#[test]
-fn a_transaction_after_the_other(rt: HostRuntime) {
-    follows(
-        &rt,
-        2,
-        1,
-        Order::Before,
-        State::Running,
-        Some(Effect::JoinBefore),
-    );
-    follows(
-        &rt,
-        2,
-        1,
-        Order::Before,
-        State::Validated,
-        Some(Effect::RaiseAbove(12)),
-    );
-    follows(
-        &rt,
-        2,
-        1,
-        Order::Before,
-        State::Committed,
-        Some(Effect::RaiseAbove(12)),
-    );
-    follows(&rt, 2, 1, Order::Before, State::Aborted, None);
-}
-
-#[test]
-fn a_transaction_apart_from_the_other(rt: HostRuntime) {
-    for (first, second) in [(1, 2), (2, 1)] {
-        follows(
-            &rt,
-            first,
-            second,
-            Order::Apart,
-            State::Running,
-            Some(Effect::JoinAfter),
+    for (state, effect) in [
+        (State::Running, running),
+        (State::Validated, passed),
+        (State::Committed, passed),
+        (State::Aborted, None),
+    ] {
+        assert_eq!(rt;
+            note.effect(1, &row(state, 3, 12)),
+            effect,
+            "{note:?}, {state:?}"
         );
-        follows(
-            &rt,
-            first,
-            second,
-            Order::Apart,
-            State::Validated,
-            Some(Effect::RaiseAbove(12)),
-        );
-        follows(
-            &rt,
-            first,
-            second,
-            Order::Apart,
-            State::Committed,
-            Some(Effect::RaiseAbove(12)),
-        );
-        follows(&rt, first, second, Order::Apart, State::Aborted, None);
     }
-    follows(&rt, 2, 3, Order::Before, State::Validated, None);
+}
+
+#[test]
+fn notes_take_effect_by_the_other_row(rt: HostRuntime) {
+    let below = Some(Effect::LowerBelow(3));
+    let above = Some(Effect::RaiseAbove(12));
+    let before = Some(Effect::JoinBefore);
+    let after = Some(Effect::JoinAfter);
+    follows(&rt, 1, 2, Order::Before, after, below);
+    follows(&rt, 2, 1, Order::Before, before, above);
+    follows(&rt, 1, 2, Order::Apart, after, above);
+    follows(&rt, 2, 1, Order::Apart, after, above);
+    follows(&rt, 2, 3, Order::Before, None, None);
 }
 
 // A row at ground 1.

@@ -1,8 +1,8 @@
+use base::Refusal;
 use std::alloc::{AllocError, Global};
 use std::process::Abort;
 use std::test::Fail;
 use wire::message::{Message, pair_at};
-use wire::refusal::Refusal;
 
 // Reads words that begin with no message.
 fn refused(rt: &impl Abort, words: &[u32]) {
