@@ -76,7 +76,7 @@ floors_by q r = cond (is_past r.state && (q.later || q.apart)) (r.upper ∷ []) 
 abbrev pub ceilings_by : Relation → Row → List ℤ
 ceilings_by q r = cond (is_past r.state && q.earlier) (r.lower ∷ []) []
 
--- A Running row is before where the transaction goes later than its own; it is after where that goes earlier, or is apart.
+-- A Running row is on the list before where the transaction goes after it, and on the list after where that goes before it or is apart.
 abbrev pub lists_by : Relation → Row → Lists
 lists_by q r = record { before = is_running r.state && q.later; after = is_running r.state && (q.earlier || q.apart) }
 
