@@ -1,46 +1,69 @@
 -- A search from the end, over any lines.
---   last_here, last_before   lines past a place have not the key: what follows where the one before it has, and where it has not
+--   found_back      what `rposition` finds among the lines of a slice is the place of the last line that passes the test
 --   last_is_first   where no two lines have the same key, the last line with a key is the first one
 --   found_last      so the line at the place found is the first one with the key
-use Rattle.std.proofs.Common.{◌≡◌, ℕ, ◌+◌, ◌-◌, ◌<◌, zero, suc, Bool, true, false, cond, List, [], ◌∷◌, map, length, get_or, take, Some, None, Option, sym, refl, ap, ◌∙◌, arith}
+use Rattle.std.proofs.Common.{◌≡◌, ℕ, ◌+◌, Bool, true, false, cond, List, [], ◌∷◌, map, length, Some, None, Option, Bor, Iter, MatchOption, IsSomeAnd, subst, sym, refl, ap, ◌∙◌, arith}
 use Rattle.std.proofs.lemmas.Bool.{true≢false}
+use Rattle.std.proofs.lemmas.List.{length_push, nil_from_length}
 use Rattle.std.proofs.lemmas.Map.Keys.{IsDistinct-head, IsDistinct-tail}
-use Rattle.std.specs.List.{AllByRecursion, IsDistinct, position_from, slice_get}
+use Rattle.std.specs.Fn.{Called, Mut}
+use Rattle.std.specs.Iterator.{FindsPositionBack, Yields}
+use Rattle.std.specs.List.{AllByRecursion, FoldsTo, IsDistinct, position_from, push, slice_get}
 use Rattle.std.specs.Option.{option_and_then, option_or}
+use Rattle.std.specs.Slice.Iter.{iter_rest, iter_steps_back}
 use Rattle.book.specs.Books.{last_from, last_position_of, position_of, line_with}
 use Rattle.book.proofs.Books.{line_at, line_at_place}
 
--- One more line.
-last_more : {L : Type 0} (p : L → Bool) (n i : ℕ) (xs : List L) (d : L) → i < length xs
-    → last_from p n (take (suc i) xs) ≡ cond (p (get_or xs i d)) (Some (n + i)) (last_from p n (take i xs))
-last_more p n i [] d l = absurd (omega arith)
-last_more p n zero (x ∷ xs) d l = ap (λ m. cond (p x) (Some m) None) (omega arith)
-last_more p n (suc i) (x ∷ xs) d l =
-    ap (λ o. option_or o (cond (p x) (Some n) None)) (last_more p (n + 1) i xs d (omega arith))
-    ∙ go (p (get_or xs i d)) (last_from p (n + 1) (take i xs))
+-- One more line at the end, at the place m.
+last_push : {L : Type 0} (p : L → Bool) (n m : ℕ) (xs : List L) (x : L) (b : Bool) → m ≡ n + length xs → b ≡ p x
+    → last_from p n (push xs x) ≡ cond b (Some m) (last_from p n xs)
+last_push p n m [] x b e test = ap (λ d. cond d (Some n) None) (sym test) ∙ ap (λ k. cond b (Some k) None) (omega arith)
+last_push p n m (y ∷ xs) x b e test =
+    ap (λ o. option_or o (cond (p y) (Some n) None)) (last_push p (n + 1) m xs x b (omega arith) test) ∙ go b
   where
-    go : (b : Bool) (o : Option ℕ)
-        → option_or (cond b (Some (n + 1 + i)) o) (cond (p x) (Some n) None)
-        ≡ cond b (Some (n + suc i)) (option_or o (cond (p x) (Some n) None))
-    go true o = ap Some (omega arith)
-    go false o = refl
+    go : (d : Bool) → option_or (cond d (Some m) (last_from p (n + 1) xs)) (cond (p y) (Some n) None)
+        ≡ cond d (Some m) (last_from p n (y ∷ xs))
+    go true = refl
+    go false = refl
 
-module _ {L : Type 0} (p : L → Bool) (i : ℕ) (xs : List L) (d : L) (some : 0 < i) (within : i - 1 < length xs)
-    (past : last_from p 0 (take i xs) ≡ last_from p 0 xs) where
-  -- The line before the place i.
-  step : last_from p 0 xs ≡ cond (p (get_or xs (i - 1) d)) (Some (i - 1)) (last_from p 0 (take (i - 1) xs))
-  step =
-      let back : suc (i - 1) ≡ i = omega arith in
-      sym past
-      ∙ (ap (λ j. last_from p 0 (take j xs)) (sym back)
-      ∙ (last_more p 0 (i - 1) xs d within
-      ∙ ap (λ j. cond (p (get_or xs (i - 1) d)) (Some j) (last_from p 0 (take (i - 1) xs))) (omega arith)))
+-- A closure that its calls leave as it was, and that answers by the test p.
+module _ {L F : Type 0} {g : Mut F (Bor L × Unit {0}) Bool} {f : F} (p : L → Bool)
+    (told : (x : Bor L) (b : Bool) (q : F) → Called g f (x, tt) b q → (q ≡ f) × (b ≡ p x.now)) where
+  -- The last of the lines that are left, where the test of it answered b.
+  tested : (s t : Iter L) (x : Bor L) (b : Bool) → iter_steps_back s (Some x) t → b ≡ p x.now
+      → last_from p 0 (iter_rest s) ≡ cond b (Some (length (iter_rest t))) (last_from p 0 (iter_rest t))
+  tested s t x b step test =
+      ap (last_from p 0) step ∙ last_push p 0 (length (iter_rest t)) (iter_rest t) x.now b (omega arith) test
 
-  pub last_here : p (get_or xs (i - 1) d) ≡ true → Some (i - 1) ≡ last_from p 0 xs
-  last_here e = sym (step ∙ ap (λ b. cond b (Some (i - 1)) (last_from p 0 (take (i - 1) xs))) e)
+  -- Lines that were passed over.
+  passed : (xs : List (Bor L)) (s t : Iter L) (j : F) → Yields iter_steps_back s xs t
+      → FoldsTo (λ a x q. Called g a (x, tt) false q) f xs j
+      → (j ≡ f) × (length (iter_rest s) ≡ length xs + length (iter_rest t))
+      × (last_from p 0 (iter_rest s) ≡ last_from p 0 (iter_rest t))
+  passed [] s t j y c = (sym c, ap (λ k. length (iter_rest k)) y ∙ omega arith, ap (λ k. last_from p 0 (iter_rest k)) y)
+  passed (x ∷ xs) s t j (k, step, y) (q, call, c) =
+      let (stays, fails) = told x false q call in
+      let rest = passed xs k t j y (subst (λ a. FoldsTo (λ a x q. Called g a (x, tt) false q) a xs j) stays c) in
+      (rest.0, omega (arith, ap length step, length_push (iter_rest k) x.now), tested s k x false step fails ∙ rest.2)
 
-  pub last_before : p (get_or xs (i - 1) d) ≡ false → last_from p 0 (take (i - 1) xs) ≡ last_from p 0 xs
-  last_before e = sym (step ∙ ap (λ b. cond b (Some (i - 1)) (last_from p 0 (take (i - 1) xs))) e)
+  -- The line at which the search stopped, after n of m lines.
+  stopped : (o : Option (Bor L)) (r : Option ℕ) (n m : ℕ) (t u : Iter L) (j : F) → iter_steps_back t o u
+      → j ≡ f → m ≡ n + length (iter_rest t)
+      → MatchOption o (r ≡ None) (λ x. IsSomeAnd r (λ i. i + 1 + n ≡ m) × ((h : F) × Called g j (x, tt) true h))
+      → r ≡ last_from p 0 (iter_rest t)
+  stopped None r n m t u j none same long e = e ∙ ap (last_from p 0) (sym (nil_from_length (iter_rest t) none.0))
+  stopped (Some x) None n m t u j step same long e = absurd e.0
+  stopped (Some x) (Some i) n m t u j step same long (at, (h, call)) =
+      let passes = told x true h (subst (λ a. Called g a (x, tt) true h) same call) in
+      ap Some (omega (arith, ap length step, length_push (iter_rest u) x.now)) ∙ sym (tested t u x true step passes.1)
+
+  -- The whole search.
+  pub found_back : {s u : Iter L} {r : Option ℕ} {xs : List L}
+      → FindsPositionBack iter_steps_back g s f (length (iter_rest s)) r u → iter_rest s ≡ xs → r ≡ last_from p 0 xs
+  found_back {s = s} {u = u} {r = r} (seen, o, j, (t, y, step), c, end) e =
+      let past = passed seen s t j y c in
+      stopped o r (length seen) (length (iter_rest s)) t u j step past.0 past.1 end
+      ∙ (sym past.2 ∙ ap (last_from p 0) e)
 
 module _ {L K : Type 0} (same : K → K → Bool) (equal : (j k : K) → same j k ≡ true → j ≡ k) (f : L → K) (k : K) where
   -- The test that the search makes.

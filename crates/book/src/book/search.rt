@@ -28,13 +28,7 @@ impl<'a, L: Line> Book<'a, L> {
         ensures position { result ≡ last_position_of L.Key.eq L.keyed key (lines_of self.now) }
         ensures within { IfSome result (λ i. i < length (lines_of self.now)) }
     {
-        let lines = self.lines();
-        for i in (0..lines.len()).rev() {
-            if lines[i].key() == key {
-                return Some(i);
-            }
-        }
-        None
+        self.lines().iter().rposition(|line| line.key() == key)
     }
 
     /// The last line with the key, or nothing.
