@@ -20,7 +20,7 @@ use Rattle.lines.specs.declared.row.RowKey.{RowKey}
 use Rattle.protocol.specs.Among.{effect_among, effect_with, other_party, joins_among, is_before, is_after, befores_among, afters_among, pushed_by, pushed_among}
 use Rattle.protocol.specs.Checks.{is_running}
 use Rattle.register.specs.Relations.{said, relation_of, is_earlier, is_later, is_apart, lists_of, befores_beside, afters_beside, pushed_beside}
-use Rattle.register.proofs.Relations.{effect_said}
+use Rattle.register.proofs.Bounding.{effect_said}
 
 -- A key is the same as itself.
 same_row_itself : (k : RowKey) → same_row k k ≡ true
@@ -93,7 +93,7 @@ module _ (rows : List Row) (t g : ℕ) where
     after_table : (s : Option Side) → is_after (effect_said s r) ≡ (is_running r.state && (is_earlier s || is_apart s))
     after_table s = grind arith
 
-    before_same : (notes : List Note) → joins_among is_before rows notes t g r ≡ (lists_of notes t g r).before
+    before_same : (notes : List Note) → joins_among is_before rows notes t g r ≡ (lists_of (relation_of notes t g) r).before
     before_same [] = grind (arith, nat_tests)
     before_same (n ∷ ns) =
         both (eqb r.ground g) _ _ (is_running r.state) _ _ (one_note is_before refl n ∙ before_table (said t g r n)) (before_same ns)
@@ -101,7 +101,7 @@ module _ (rows : List Row) (t g : ℕ) where
         both : (G x y R a b : Bool) → (G && x) ≡ (R && a) → (G && y) ≡ (R && b) → (G && (x || y)) ≡ (R && (a || b))
         both G x y R a b d e = grind (arith, nat_tests)
 
-    after_same : (notes : List Note) → joins_among is_after rows notes t g r ≡ (lists_of notes t g r).after
+    after_same : (notes : List Note) → joins_among is_after rows notes t g r ≡ (lists_of (relation_of notes t g) r).after
     after_same [] = grind (arith, nat_tests)
     after_same (n ∷ ns) =
         all (eqb r.ground g) _ _ (is_running r.state) (is_earlier (said t g r n)) (relation_of ns t g r).earlier (is_apart (said t g r n)) (relation_of ns t g r).apart
@@ -111,17 +111,17 @@ module _ (rows : List Row) (t g : ℕ) where
         all G x y R a b c d e f = grind (arith, nat_tests)
 
   module _ (notes : List Note) (d : IsDistinct same_row (map row_key rows)) where
-    pub befores_same : befores_among rows notes t g ≡ befores_beside notes t g rows
+    pub befores_same : befores_among rows notes t g ≡ befores_beside (relation_of notes t g) rows
     befores_same =
         ap (map (λ r. r.lower))
         (filter_same (joins_among is_before rows notes t g) _ rows (all_have _ _ (λ r at. before_same r at notes) rows (all_found rows d)))
 
-    pub afters_same : afters_among rows notes t g ≡ afters_beside notes t g rows
+    pub afters_same : afters_among rows notes t g ≡ afters_beside (relation_of notes t g) rows
     afters_same =
         ap (map (λ r. r.upper))
         (filter_same (joins_among is_after rows notes t g) _ rows (all_have _ _ (λ r at. after_same r at notes) rows (all_found rows d)))
 
-    pub pushed_same : (range : ℤ × ℤ) → map (pushed_among rows notes t g range) rows ≡ map (pushed_beside notes t g range) rows
+    pub pushed_same : (range : ℤ × ℤ) → map (pushed_among rows notes t g range) rows ≡ map (pushed_beside (relation_of notes t g) range) rows
     pushed_same range =
-        map_same (pushed_among rows notes t g range) (pushed_beside notes t g range) rows
+        map_same (pushed_among rows notes t g range) (pushed_beside (relation_of notes t g) range) rows
         (all_have _ _ (λ r at. ap₂ (λ b a. pushed_by b a range r) (before_same r at notes) (after_same r at notes)) rows (all_found rows d))

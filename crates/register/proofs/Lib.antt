@@ -13,11 +13,13 @@ mod Tallying
 pub mod Registers
 -- Two transactions at a ground.
 mod Relating
-mod Relations
+mod Telling
+mod Bounding
 mod Joining
 -- Validation.
 mod Raising
 mod Pushing
+mod Taking
 mod Validating
 -- Settlement.
 mod Settlements

@@ -3,9 +3,9 @@
 --   push_all          all have
 --   pushed_bounded    a row within its limits stays within them
 --   none_pushed       where no row has to make way, all stay
---   placed_pushed     rows that make way keep their places
+--   placed_beside     rows that make way keep their places
 --   no_befores, no_afters   and no row is on a list
-use Rattle.std.proofs.Common.{◌≡◌, ℕ, ◌+◌, ◌<◌, ◌≤◌, Bool, false, List, [], ◌∷◌, ◌++◌, map, length, get_or, take, drop, set, ℤ, pos, ◌≤ℤ◌, Some, sym, refl, ap, ◌∙◌, cond, subst}
+use Rattle.std.proofs.Common.{◌≡◌, ℕ, ◌+◌, ◌<◌, ◌≤◌, Bool, false, List, [], ◌∷◌, ◌++◌, map, length, get_or, take, drop, set, ℤ, pos, ◌≤ℤ◌, Some, None, Option, sym, refl, ap, ◌∙◌, cond, subst}
 use Rattle.std.proofs.Common.{append-nil, arith}
 use Rattle.std.proofs.lemmas.List.Edits.{map_over_more}
 use Rattle.std.proofs.lemmas.List.{take_all, drop_all, length-map}
@@ -13,13 +13,13 @@ use Rattle.std.proofs.lemmas.Option.{slice_get-get_or}
 use Rattle.std.proofs.lemmas.Int.{ints, clamps}
 use Rattle.std.specs.List.{slice_get, position_from}
 use Rattle.lines.specs.Rows.{IsBounded}
-use Rattle.lines.specs.declared.note.Note.{Note}
 use Rattle.lines.specs.LineKeys.{row_key, same_row}
 use Rattle.lines.specs.declared.row.Row.{Row}
 use Rattle.lines.specs.declared.row.RowKey.{RowKey}
 use Rattle.register.specs.Sound.{PlacedAt}
 use Rattle.protocol.specs.Among.{pushed_by}
-use Rattle.register.specs.Relations.{has_neighbours, befores_beside, afters_beside, pushed_beside}
+use Rattle.register.specs.Relations.{has_neighbours, befores_beside, afters_beside, pushed_beside, rows_beside}
+use Rattle.register.specs.declared.relation.Relation.{Relation}
 
 module _ (makes_way : Row → Row) (xs : List Row) where
   pub push_more : (ys : List Row) (i : ℕ) (x : Row) → i < length xs → i < length ys → ys ≡ map makes_way (take i xs) ++ drop i xs
@@ -44,27 +44,31 @@ pushed_bounded before after from to r f t b = record {
   upper_most = grind (arith, ints, clamps);
 }
 
-module _ (notes : List Note) (t g : ℕ) where
-  pub none_pushed : (range : ℤ × ℤ) (rows : List Row) → has_neighbours notes t g rows ≡ false
-      → map (pushed_beside notes t g range) rows ≡ rows
+module _ (q : Row → Relation) where
+  pub none_pushed : (range : ℤ × ℤ) (rows : List Row) → has_neighbours q rows ≡ false
+      → map (pushed_beside q range) rows ≡ rows
   none_pushed range [] e = refl
   none_pushed range (r ∷ rs) e = let later = none_pushed range rs in grind arith
 
-  pub no_befores : (rows : List Row) → has_neighbours notes t g rows ≡ false → befores_beside notes t g rows ≡ []
+  pub no_befores : (rows : List Row) → has_neighbours q rows ≡ false → befores_beside q rows ≡ []
   no_befores [] e = refl
   no_befores (r ∷ rs) e = let later = no_befores rs in grind arith
 
-  pub no_afters : (rows : List Row) → has_neighbours notes t g rows ≡ false → afters_beside notes t g rows ≡ []
+  pub no_afters : (rows : List Row) → has_neighbours q rows ≡ false → afters_beside q rows ≡ []
   no_afters [] e = refl
   no_afters (r ∷ rs) e = let later = no_afters rs in grind arith
 
   -- Rows that make way keep their places.
-  pub placed_pushed : (range : ℤ × ℤ) (rows : List Row) (k : RowKey) (i : ℕ) → PlacedAt rows k i
-      → PlacedAt (map (pushed_beside notes t g range) rows) k i
+  placed_pushed : (range : ℤ × ℤ) (rows : List Row) (k : RowKey) (i : ℕ) → PlacedAt rows k i
+      → PlacedAt (map (pushed_beside q range) rows) k i
   placed_pushed range rows k i p =
-      (subst (λ n. i < n) (sym (length-map rows (pushed_beside notes t g range))) p.0, kept 0 rows ∙ p.1)
+      (subst (λ n. i < n) (sym (length-map rows (pushed_beside q range))) p.0, kept 0 rows ∙ p.1)
     where
       kept : (n : ℕ) (rs : List Row)
-          → position_from (λ x. same_row (row_key x) k) n (map (pushed_beside notes t g range) rs) ≡ position_from (λ x. same_row (row_key x) k) n rs
+          → position_from (λ x. same_row (row_key x) k) n (map (pushed_beside q range) rs) ≡ position_from (λ x. same_row (row_key x) k) n rs
       kept n [] = refl
       kept n (r ∷ rs) = ap (λ o. cond (same_row (row_key r) k) (Some n) o) (kept (n + 1) rs)
+
+  pub placed_beside : (o : Option (ℤ × ℤ)) (rows : List Row) (k : RowKey) (i : ℕ) → PlacedAt rows k i → PlacedAt (rows_beside q o rows) k i
+  placed_beside None rows k i p = p
+  placed_beside (Some range) rows k i p = placed_pushed range rows k i p

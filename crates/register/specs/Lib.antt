@@ -1,10 +1,12 @@
 pub mod Agreements
 pub mod Days
+pub mod Lookups
 pub mod Meetings
 pub mod Ranges
 pub mod Registers
 pub mod Relations
 pub mod Room
 pub mod Settling
+pub mod Slots
 pub mod Sound
 pub mod Tallies

@@ -7,12 +7,16 @@
 --   ceilings_by q r             what it lowers the upper bound below, if it does
 --   lists_by q r                which of the two lists the row is on
 --   has_lists                   the row is on one of them
+--   choice P l u befores afters  the range that a policy takes of the one from l to u, or nothing
+--   event_of                     what that is for the transaction's own row
+--  and of all rows, where q says what the notes say of each:
 --   floors_beside, ceilings_beside    all that rows raise a range above, and lower it below
---   lists_of                    the lists of a row by the notes
+--   lists_of                    the lists of a row
 --   has_neighbours              whether a row has to make way
 --   befores_beside, afters_beside     the lowers of the rows before and the uppers of the rows after
 --   pushed_beside               a row after a range was taken
-use Rattle.std.specs.Prelude.{ℕ, Bool, true, false, cond, ◌&&◌, ◌||◌, List, [], ◌∷◌, map, ℤ, Some, None, filter, Option, ◌==◌}
+--   choice_beside, rows_beside   what is taken of a range beside rows, and the rows after that
+use Rattle.std.specs.Prelude.{ℕ, Bool, true, false, cond, ◌&&◌, ◌||◌, List, [], ◌∷◌, map, ℤ, int_lt, Some, None, filter, Option, ◌==◌}
 use Rattle.std.specs.List.{flat_map, list_any}
 use Rattle.base.specs.Keys.{ground_of}
 use Rattle.lines.specs.LineKeys.{row_key, row_key_at, same_row}
@@ -21,9 +25,12 @@ use Rattle.lines.specs.Rows.{is_past}
 use Rattle.lines.specs.declared.note.Note.{Note}
 use Rattle.lines.specs.declared.note.Side.{Side}
 use Rattle.lines.specs.declared.note.Side.TheVariants.{Earlier, Later, Apart}
+use Rattle.lines.specs.declared.row.Event.{Event}
+use Rattle.lines.specs.declared.row.Event.TheVariants.{Pass, Fail}
 use Rattle.lines.specs.declared.row.Row.{Row}
-use Rattle.protocol.specs.Among.{other_party, pushed_by}
+use Rattle.protocol.specs.Among.{other_party, pushed_by, raised_above, lowered_below}
 use Rattle.protocol.specs.Checks.{is_running}
+use Rattle.protocol.specs.Model.{Chooses}
 use Rattle.register.specs.declared.relation.Relation.{Relation}
 use Rattle.register.specs.declared.relation.Lists.{Lists}
 
@@ -84,18 +91,27 @@ lists_by q r = record { before = is_running r.state && q.later; after = is_runni
 abbrev pub has_lists : Lists → Bool
 has_lists x = x.before || x.after
 
-module _ (notes : List Note) (t g : ℕ) where
+-- What a policy takes of what is left, from l to u: nothing where nothing is.
+abbrev pub choice : Chooses → ℤ → ℤ → List ℤ → List ℤ → Option (ℤ × ℤ)
+choice P l u befores afters = cond (int_lt u l) None (Some (P l u befores afters))
+
+-- A row passes with what was choice, or fails.
+abbrev pub event_of : Option (ℤ × ℤ) → Event
+event_of None = Fail
+event_of (Some range) = Pass range.0 range.1
+
+module _ (q : Row → Relation) where
   -- What all rows raise a range above.
   abbrev pub floors_beside : List Row → List ℤ
-  floors_beside rows = flat_map (λ r. floors_by (relation_of notes t g r) r) rows
+  floors_beside rows = flat_map (λ r. floors_by (q r) r) rows
 
   -- What they lower it below.
   abbrev pub ceilings_beside : List Row → List ℤ
-  ceilings_beside rows = flat_map (λ r. ceilings_by (relation_of notes t g r) r) rows
+  ceilings_beside rows = flat_map (λ r. ceilings_by (q r) r) rows
 
   -- The lists of a row.
   abbrev pub lists_of : Row → Lists
-  lists_of r = lists_by (relation_of notes t g r) r
+  lists_of r = lists_by (q r) r
 
   -- Whether a row has to make way.
   abbrev pub has_neighbours : List Row → Bool
@@ -112,3 +128,13 @@ module _ (notes : List Note) (t g : ℕ) where
   -- A row after a range was taken.
   abbrev pub pushed_beside : ℤ × ℤ → Row → Row
   pushed_beside range r = pushed_by (lists_of r).before (lists_of r).after range r
+
+  -- What is taken of the range from l to u.
+  abbrev pub choice_beside : Chooses → ℤ → ℤ → List Row → Option (ℤ × ℤ)
+  choice_beside P l u rows =
+      choice P (raised_above l (floors_beside rows)) (lowered_below u (ceilings_beside rows)) (befores_beside rows) (afters_beside rows)
+
+  -- The rows after that.
+  abbrev pub rows_beside : Option (ℤ × ℤ) → List Row → List Row
+  rows_beside None rows = rows
+  rows_beside (Some range) rows = map (pushed_beside range) rows

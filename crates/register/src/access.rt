@@ -1,10 +1,10 @@
 // What a read or a prewrite adds for the soft locks that it meets.
 
-ghost use Rattle.std.specs.Prelude.{◌≡◌, ◌+◌, nat_le, true, [], ◌∷◌, map, length, count_by};
+ghost use Rattle.std.specs.Prelude.{◌≡◌, ◌==◌, ◌+◌, nat_le, true, [], ◌∷◌, map, length, count_by};
+ghost use Rattle.base.specs.Keys.{ground_of};
 ghost use Rattle.book.specs.Books.{room, lines_of};
 ghost use Rattle.lines.specs.LineKeys.{read_key, write_key};
 ghost use Rattle.protocol.specs.Checks.{has_room};
-ghost use Rattle.protocol.specs.Validation.{of_here};
 ghost use Rattle.register.specs.Meetings.{is_met, met, note_by};
 ghost use Rattle.register.specs.Room.{Extended};
 
@@ -13,13 +13,12 @@ use base::Place;
 use book::{Book, Line};
 use lines::access::{AccessKey, ReadLine, WriteLine};
 use lines::note::{Note, Order, Side};
-use lines::row::RowKey;
 
-/// Whether a read or write line is the transaction's at the ground. The transaction is compared first, since few lines are its own.
-pub fn is_own(line: AccessKey, own: RowKey) -> bool
-    ensures { result ≡ of_here own.transaction own.ground line.transaction line.key }
+/// Whether a key is of a ground.
+pub fn is_at(key: u16, ground: u16) -> bool
+    ensures { result ≡ (ground_of key == ground) }
 {
-    line.transaction == own.transaction && Place::from(line.key).burial_ground == own.ground
+    Place::from(key).burial_ground == ground
 }
 
 // The note that says this of a transaction and of the holder of a lock that it meets.
@@ -53,7 +52,8 @@ fn note(access: AccessKey, side: Side, holder: u32) -> Note
 fn is_met(line: AccessKey, rows: &RowBook, access: AccessKey) -> bool
     ensures { result ≡ is_met (lines_of rows.now.book) access.transaction access.key line }
 {
-    line.key == access.key && line.transaction != access.transaction && rows.lock_stands(line)
+    // The keys alone first, since few lines are of the key; whose line it is would be read of every line if it came next.
+    line.key == access.key && rows.lock_stands(line) && line.transaction != access.transaction
 }
 
 // How many locks of others a transaction meets on a key, among some lines.

@@ -8,10 +8,9 @@ ghost use Rattle.register.specs.Tallies.{told_with, tally_of};
 ghost use Rattle.register.specs.Settling.{with_change, cells_after_reads, cells_after_writes};
 ghost use Rattle.store.specs.Stores.{Puts};
 
-use crate::access::is_own;
+use crate::access::is_at;
 use crate::range::Range;
 use base::{Stamp, TOP};
-use book::Line;
 use lines::access::{ReadLine, WriteLine};
 use lines::row::{Row, RowKey, State};
 use lines::transaction::Decision;
@@ -115,7 +114,7 @@ pub fn settle_reads<S: Store>(store: &mut S, own: RowKey, reads: &[ReadLine], st
     ensures puts { Puts S.beside store.old store.new }
 {
     for line in reads {
-        if is_own(line.key(), own) {
+        if line.transaction == own.transaction && is_at(line.key, own.ground) {
             settle_read(store, line, stamp);
         }
     }
@@ -127,7 +126,7 @@ pub fn settle_writes<S: Store>(store: &mut S, own: RowKey, writes: &[WriteLine],
     ensures puts { Puts S.beside store.old store.new }
 {
     for line in writes {
-        if is_own(line.key(), own) {
+        if line.transaction == own.transaction && is_at(line.key, own.ground) {
             settle_write(store, line, stamp);
         }
     }

@@ -4,11 +4,13 @@
 mod access;
 mod agreement;
 mod ending;
+mod floors;
 mod gathered;
 mod range;
 mod register;
 mod relation;
 mod row_book;
+mod slots;
 mod validation;
 
 pub use agreement::{Verdict, validate_both};

@@ -1,9 +1,8 @@
 ghost use Rattle.std.specs.Prelude.{◌≡◌, pos, ◌≤ℤ◌, int_lt};
 ghost use Rattle.base.specs.declared.stamp.TheConstants.{TOP};
-ghost use Rattle.lines.specs.declared.row.Event.TheVariants.{Pass};
 ghost use Rattle.register.specs.Ranges.{above, below, range_of, within};
 
-use lines::row::{Event, Row};
+use lines::row::Row;
 
 /// The stamps from `lower` to `upper`, both inside.
 #[derive(Clone, Copy)]
@@ -56,22 +55,5 @@ impl Range {
             lower: self.lower.max(row.lower),
             upper: self.upper.min(row.upper),
         }
-    }
-
-    /// The event that a validation passes with it.
-    pub fn pass(self) -> Event
-        ensures { result ≡ Pass self.lower self.upper }
-    {
-        Event::Pass {
-            lower: self.lower,
-            upper: self.upper,
-        }
-    }
-
-    /// Its two bounds.
-    pub fn bounds(self) -> (i32, i32)
-        ensures { result ≡ (self.lower, self.upper) }
-    {
-        (self.lower, self.upper)
     }
 }

@@ -1,15 +1,15 @@
 // Two transactions at a ground: what the notes say of them, and what follows for the first from the row of the other.
 
-ghost use Rattle.std.specs.Prelude.{◌≡◌, ℕ};
-ghost use Rattle.lines.specs.declared.row.Row.{Row};
+ghost use Rattle.std.specs.Prelude.{◌≡◌};
 ghost use Rattle.lines.specs.Rows.{IsBounded, is_past};
 ghost use Rattle.protocol.specs.Among.{other_party, pushed_by};
 ghost use Rattle.register.specs.Ranges.{above_all, below_all};
 ghost use Rattle.register.specs.Registers.{IsOfStamps};
 ghost use Rattle.register.specs.Relations.{said, unrelated, with_side, relation_of, floors_by, ceilings_by, lists_by, has_lists};
+ghost use Rattle.register.specs.Slots.{names, side_at};
 
+use crate::access::is_at;
 use crate::range::Range;
-use base::Place;
 use lines::note::{Note, Side};
 use lines::row::{Row, RowKey, State};
 
@@ -22,8 +22,15 @@ pub struct Relation {
     pub apart: bool,
 }
 
-// The other party of a note.
-fn other_party(note: &Note, transaction: u32) -> u32
+/// Whether a transaction is one of the two parties of a note.
+pub fn names(note: &Note, transaction: u32) -> bool
+    ensures { result ≡ names transaction note.now }
+{
+    note.first == transaction || note.second == transaction
+}
+
+/// The other party of a note.
+pub fn other_party(note: &Note, transaction: u32) -> u32
     ensures { result ≡ other_party note.now transaction }
 {
     if note.first == transaction {
@@ -33,17 +40,25 @@ fn other_party(note: &Note, transaction: u32) -> u32
     }
 }
 
+/// What a note says of a transaction at a ground, whoever the other is.
+pub fn side_at(note: &Note, own: RowKey) -> Option<Side>
+    ensures { result ≡ side_at note.now own.transaction own.ground }
+{
+    // The parties first, since most notes are of others.
+    if !names(note, own.transaction) || !is_at(note.key, own.ground) {
+        return None;
+    }
+    note.side(own.transaction)
+}
+
 // What a note says of a transaction at a ground and of the one whose row the other is.
 fn said(note: &Note, own: RowKey, other: &Row) -> Option<Side>
     ensures { result ≡ said own.transaction own.ground other.now note.now }
 {
-    if other.transaction != other_party(note, own.transaction)
-        || other.ground != own.ground
-        || Place::from(note.key).burial_ground != own.ground
-    {
+    if other.transaction != other_party(note, own.transaction) || other.ground != own.ground {
         return None;
     }
-    note.side(own.transaction)
+    side_at(note, own)
 }
 
 // Whether a row passed its validation and was not aborted since.
@@ -53,21 +68,9 @@ fn has_passed(row: &Row) -> bool
     matches!(row.state, State::Validated | State::Committed)
 }
 
-/// The notes from the first one on that names the transaction. Those before it say nothing of it, whatever the ground and the other.
-pub fn notes_since(notes: &[Note], transaction: u32) -> &[Note]
-    ensures { (g : ℕ) (r : Row) → relation_of result.now transaction g r ≡ relation_of notes.now transaction g r }
-{
-    for (i, note) in notes.iter().enumerate() {
-        if note.first == transaction || note.second == transaction {
-            return &notes[i..];
-        }
-    }
-    &[]
-}
-
 impl Relation {
-    // Two transactions of which no note speaks.
-    fn none() -> Relation
+    /// Two transactions of which no note speaks.
+    pub fn none() -> Relation
         ensures { result ≡ unrelated }
     {
         Relation {
@@ -77,8 +80,8 @@ impl Relation {
         }
     }
 
-    // What one more note says beside what others say.
-    fn with(self, side: Option<Side>) -> Relation
+    /// What one more note says beside what others say.
+    pub fn with(self, side: Option<Side>) -> Relation
         ensures { result ≡ with_side side self }
     {
         match side {
@@ -166,19 +169,6 @@ pub struct Lists {
 }
 
 impl Lists {
-    /// The lists of a row by what the notes say. Only a Running row is asked for.
-    pub fn of_row(notes: &[Note], own: RowKey, other: &Row) -> Lists
-        ensures { result ≡ lists_by (relation_of notes.now own.transaction own.ground other.now) other.now }
-    {
-        if !matches!(other.state, State::Running) {
-            return Lists {
-                before: false,
-                after: false,
-            };
-        }
-        Relation::between(notes, own, other).lists(other)
-    }
-
     /// Whether the row has to make way at all.
     pub fn any(self) -> bool
         ensures { result ≡ has_lists self }
@@ -187,16 +177,17 @@ impl Lists {
     }
 
     /// The row after a range was taken.
-    pub fn push(self, row: Row, range: Range) -> Row
-        requires { IsOfStamps (range.lower, range.upper) }
-        ensures { result ≡ pushed_by self.before self.after (range.lower, range.upper) row }
+    pub fn push(self, row: Row, taken: (i32, i32)) -> Row
+        requires { IsOfStamps taken }
+        ensures { result ≡ pushed_by self.before self.after taken row }
     {
+        let (lower, upper) = taken;
         let mut left = Range::of_row(&row);
         if self.after {
-            left = left.above(range.upper);
+            left = left.above(upper);
         }
         if self.before {
-            left = left.below(range.lower);
+            left = left.below(lower);
         }
         Row {
             lower: left.lower,

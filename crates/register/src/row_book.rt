@@ -3,12 +3,10 @@ ghost use Rattle.book.specs.Books.{room, lines_of};
 ghost use Rattle.register.specs.Sound.{SoundRows};
 
 use crate::access::add_line;
-use crate::range::Range;
-use crate::relation::Lists;
+use crate::slots::Relations;
 use base::Refusal;
 use book::{Book, Line};
 use lines::access::AccessKey;
-use lines::note::Note;
 use lines::row::{Event, ROWS, Row, RowKey};
 
 /// The rows of a register. Their book has no more room than a call has for their bounds; those are within their limits, and a
@@ -32,8 +30,9 @@ impl<'a> RowBook<'a> {
     ghost use Rattle.protocol.specs.Noting.{row_needed};
     ghost use Rattle.protocol.specs.Validation.{row_moved};
     ghost use Rattle.register.specs.Registers.{IsOfStamps};
-    ghost use Rattle.register.specs.Relations.{has_neighbours, pushed_beside};
+    ghost use Rattle.register.specs.Relations.{pushed_beside};
     ghost use Rattle.register.specs.Room.{Extended};
+    ghost use Rattle.register.specs.Lookups.{relation_in};
     ghost use Rattle.register.specs.Sound.{PlacedAt, Located};
 
     /// No rows. The memory stays as it is.
@@ -118,22 +117,17 @@ impl<'a> RowBook<'a> {
     }
 
     /// Makes way for a range that a transaction takes at its ground: each Running row that goes before stays below it, each that goes
-    /// after or is apart stays above. Where no row has to, none is looked at.
-    pub fn make_way(&mut self, notes: &[Note], own: RowKey, range: Range, neighbours: bool)
-        requires limits { IsOfStamps (range.lower, range.upper) }
-        requires neighbours { neighbours ≡ has_neighbours notes.now own.transaction own.ground (lines_of self.old.book) }
-        ensures lines { lines_of self.new.book
-            ≡ map (pushed_beside notes.now own.transaction own.ground (range.lower, range.upper)) (lines_of self.old.book) }
+    /// after or is apart stays above.
+    pub fn make_way(&mut self, relations: &Relations, taken: (i32, i32))
+        requires limits { IsOfStamps taken }
+        ensures lines { lines_of self.new.book ≡ map (pushed_beside (relation_in relations.now) taken) (lines_of self.old.book) }
         ensures stays { Stays self.old.book self.new.book }
     {
-        if !neighbours {
-            return;
-        }
         // By number: a row is read and written in its place.
         for place in 0..self.book.len() {
             if let Some(row) = self.book.get(place) {
-                let lists = Lists::of_row(notes, own, &row);
-                self.book.set(place, lists.push(row, range));
+                let lists = relations.to(&row).lists(&row);
+                self.book.set(place, lists.push(row, taken));
             }
         }
     }

@@ -1,12 +1,11 @@
-// What a validation works out from the books: the range that is left to a transaction at a ground, and what a policy takes of it.
+// What a validation takes of the stamps that are left to a transaction at a ground, beside the rows that notes name with it.
 
-ghost use Rattle.std.specs.Prelude.{◌≡◌, ◌≤◌, ◌<◌, ◌||◌, [], ◌∷◌, ◌++◌, cond, false, pos, ◌≤ℤ◌, int_lt, fold, length};
+ghost use Rattle.std.specs.Prelude.{◌≡◌, ◌≤◌, ◌<◌, ◌||◌, [], ◌∷◌, ◌++◌, cond, pos, ◌≤ℤ◌, length, IfSome};
 ghost use Rattle.std.specs.List.{AllByRecursion};
 ghost use Rattle.base.specs.declared.stamp.TheConstants.{TOP};
+ghost use Rattle.book.specs.Books.{Stays, lines_of};
 ghost use Rattle.lines.specs.Rows.{IsBounded};
 ghost use Rattle.protocol.specs.Among.{raised_above, lowered_below};
-ghost use Rattle.protocol.specs.Validation.{read_floor, write_floor};
-ghost use Rattle.register.specs.Ranges.{above, above_all};
 ghost use Rattle.register.specs.Registers.{IsOfStamps};
 ghost use Rattle.register.specs.Relations.{
   relation_of,
@@ -19,120 +18,57 @@ ghost use Rattle.register.specs.Relations.{
   has_neighbours,
   befores_beside,
   afters_beside,
+  choice,
+  choice_beside,
+  rows_beside,
+  event_of,
 };
+ghost use Rattle.register.specs.Lookups.{relation_in};
 
-use crate::access::is_own;
 use crate::gathered::Gathered;
 use crate::range::Range;
-use crate::relation::{Lists, Relation, notes_since};
-use base::Stamp;
-use book::Line;
-use lines::access::{ReadLine, WriteLine};
+use crate::relation::Lists;
+use crate::row_book::RowBook;
+use crate::slots::{Relations, notes_since};
 use lines::note::Note;
-use lines::row::{ROWS, Row, RowKey, State};
+use lines::row::{Event, ROWS, Row, RowKey};
 use policy::Policy;
-use store::Store;
 
-// What is left of a range above a stamp.
-fn above_stamp(range: Range, stamp: Stamp) -> Range
-    ensures { result ≡ above range (pos stamp.number) }
-{
-    range.above(stamp.bound())
-}
-
-// What a read line leaves of a range, if it is the transaction's at the ground: what lies above the write stamp that was seen.
-fn above_read(range: Range, own: RowKey, line: &ReadLine) -> Range
-    ensures { result ≡ above_all range (read_floor own.transaction own.ground line.now) }
-{
-    if is_own(line.key(), own) {
-        above_stamp(range, line.seen)
-    } else {
-        range
-    }
-}
-
-// What a write line leaves of it: what lies above both stamps that its cell has now.
-fn above_write<S: Store>(range: Range, own: RowKey, line: &WriteLine, store: &S) -> Range
-    ensures { result ≡ above_all range (write_floor (S.cells store.now) own.transaction own.ground line.now) }
-{
-    if !is_own(line.key(), own) {
-        return range;
-    }
-    match store.fetch(line.key) {
-        Some(cell) => above_stamp(above_stamp(range, cell.read), cell.write),
-        None => range,
-    }
-}
-
-/// What is left of a range above the write stamps that the transaction saw at the ground.
-pub fn above_reads(range: Range, own: RowKey, reads: &[ReadLine]) -> Range
-    ensures { result ≡ fold (λ left line. above_all left (read_floor own.transaction own.ground line)) range reads.now }
-{
-    reads
-        .iter()
-        .fold(range, |left, line| above_read(left, own, line))
-}
-
-/// What is left of a range above the stamps of the cells that the transaction writes at the ground.
-pub fn above_writes<S: Store>(range: Range, own: RowKey, writes: &[WriteLine], store: &S) -> Range
-    ensures { result ≡ fold (λ left line. above_all left (write_floor (S.cells store.now) own.transaction own.ground line)) range writes.now }
-{
-    writes
-        .iter()
-        .fold(range, |left, line| above_write(left, own, line, store))
-}
-
-/// What is left to the transaction that is validated, and whether a row has to make way for it.
+// What is left to the transaction that is validated, and whether a row has to make way for it.
 #[derive(Clone, Copy)]
-pub struct Left {
-    pub range: Range,
-    pub neighbours: bool,
+struct Left {
+    range: Range,
+    neighbours: bool,
 }
 
 impl Left {
     // Beside one more row.
-    fn beside_row(self, notes: &[Note], own: RowKey, row: &Row) -> Left
+    fn beside_row(self, relations: &Relations, row: &Row) -> Left
         requires { IsBounded row.now }
-        ensures lower { result.range.lower ≡ raised_above self.range.lower
-            (floors_by (relation_of notes.now own.transaction own.ground row.now) row.now) }
-        ensures upper { result.range.upper ≡ lowered_below self.range.upper
-            (ceilings_by (relation_of notes.now own.transaction own.ground row.now) row.now) }
-        ensures neighbours { result.neighbours ≡ (self.neighbours || has_lists (lists_of notes.now own.transaction own.ground row.now)) }
+        ensures lower { result.range.lower ≡ raised_above self.range.lower (floors_by (relation_in relations.now row.now) row.now) }
+        ensures upper { result.range.upper ≡ lowered_below self.range.upper (ceilings_by (relation_in relations.now row.now) row.now) }
+        ensures neighbours { result.neighbours ≡ (self.neighbours || has_lists (lists_of (relation_in relations.now) row.now)) }
     {
-        if matches!(row.state, State::Aborted) {
-            return self;
-        }
-        let relation = Relation::between(notes, own, row);
+        let relation = relations.to(row);
         Left {
             range: relation.narrow(self.range, row),
             neighbours: self.neighbours || relation.lists(row).any(),
         }
     }
 
-    /// What is left of a range beside the rows of the ground, each of which is gone over once. Only the notes from the first one on that
-    /// names the transaction are asked.
-    pub fn beside(range: Range, notes: &[Note], own: RowKey, rows: &[Row]) -> Left
+    // What is left of a range beside the rows of the ground, each of which is gone over once.
+    fn beside(range: Range, relations: &Relations, rows: &[Row]) -> Left
         requires { AllByRecursion IsBounded rows.now }
-        ensures lower { result.range.lower ≡ raised_above range.lower (floors_beside notes.now own.transaction own.ground rows.now) }
-        ensures upper { result.range.upper ≡ lowered_below range.upper (ceilings_beside notes.now own.transaction own.ground rows.now) }
-        ensures neighbours { result.neighbours ≡ has_neighbours notes.now own.transaction own.ground rows.now }
-    {
-        Left::beside_rows(range, notes_since(notes, own.transaction), own, rows)
-    }
-
-    // Beside all rows, each asked by all notes.
-    fn beside_rows(range: Range, notes: &[Note], own: RowKey, rows: &[Row]) -> Left
-        requires { AllByRecursion IsBounded rows.now }
-        ensures lower { result.range.lower ≡ raised_above range.lower (floors_beside notes.now own.transaction own.ground rows.now) }
-        ensures upper { result.range.upper ≡ lowered_below range.upper (ceilings_beside notes.now own.transaction own.ground rows.now) }
-        ensures neighbours { result.neighbours ≡ has_neighbours notes.now own.transaction own.ground rows.now }
+        ensures lower { result.range.lower ≡ raised_above range.lower (floors_beside (relation_in relations.now) rows.now) }
+        ensures upper { result.range.upper ≡ lowered_below range.upper (ceilings_beside (relation_in relations.now) rows.now) }
+        ensures neighbours { result.neighbours ≡ has_neighbours (relation_in relations.now) rows.now }
     {
         let mut left = Left {
             range,
             neighbours: false,
         };
         for row in rows {
-            left = left.beside_row(notes, own, row);
+            left = left.beside_row(relations, row);
         }
         left
     }
@@ -158,41 +94,107 @@ fn gather_after(afters: &mut Gathered<i32, ROWS>, lists: Lists, row: &Row)
     }
 }
 
-/// The range that a policy takes of one that is not empty, given the lowers of the rows before and the uppers of the rows after.
-pub fn take<P: Policy>(policy: &P, range: Range, befores: &[i32], afters: &[i32]) -> Range
-    requires some { int_lt range.upper range.lower ≡ false }
-    requires stamps { (pos 0 ≤ℤ range.lower) × (range.upper ≤ℤ pos TOP) }
-    ensures chosen { (result.lower, result.upper) ≡ P.chosen policy.now range.lower range.upper befores.now afters.now }
-    ensures stamps { IsOfStamps (result.lower, result.upper) }
-{
-    let (lower, upper) = policy.choose(range.lower, range.upper, befores, afters);
-    Range { lower, upper }
-}
-
-/// The range that a policy takes where some row has to make way. It is shown the lowers of the rows before and the uppers of the rows
-/// after, each row once, in the order of the row book.
-// Apart, since the two lists are as large as a book of rows, and most validations have no neighbour.
-#[inline(never)]
-pub fn choose_beside<P: Policy>(
+// What a policy takes of a range, given the lowers of the rows before and the uppers of the rows after; nothing of an empty one.
+fn choose<P: Policy>(
     policy: &P,
     range: Range,
-    notes: &[Note],
-    own: RowKey,
-    rows: &[Row],
-) -> Range
-    requires few { length rows.now ≤ 256 }
-    requires some { int_lt range.upper range.lower ≡ false }
+    befores: &[i32],
+    afters: &[i32],
+) -> Option<(i32, i32)>
     requires stamps { (pos 0 ≤ℤ range.lower) × (range.upper ≤ℤ pos TOP) }
-    ensures chosen { (result.lower, result.upper) ≡ P.chosen policy.now range.lower range.upper
-        (befores_beside notes.now own.transaction own.ground rows.now) (afters_beside notes.now own.transaction own.ground rows.now) }
-    ensures stamps { IsOfStamps (result.lower, result.upper) }
+    ensures taken { result ≡ choice (P.chosen policy.now) range.lower range.upper befores.now afters.now }
+    ensures stamps { IfSome result IsOfStamps }
+{
+    if range.is_empty() {
+        return None;
+    }
+    Some(policy.choose(range.lower, range.upper, befores, afters))
+}
+
+// What it takes where some row has to make way. It is shown each row once, in the order of the row book.
+// Apart, since the two lists are as large as a book of rows.
+#[inline(never)]
+fn choose_beside<P: Policy>(
+    policy: &P,
+    range: Range,
+    relations: &Relations,
+    rows: &[Row],
+) -> Option<(i32, i32)>
+    requires few { length rows.now ≤ 256 }
+    requires stamps { (pos 0 ≤ℤ range.lower) × (range.upper ≤ℤ pos TOP) }
+    ensures taken { result ≡ choice (P.chosen policy.now) range.lower range.upper
+        (befores_beside (relation_in relations.now) rows.now) (afters_beside (relation_in relations.now) rows.now) }
+    ensures stamps { IfSome result IsOfStamps }
 {
     let mut befores: Gathered<i32, ROWS> = Gathered::new(0);
     let mut afters: Gathered<i32, ROWS> = Gathered::new(0);
     for row in rows {
-        let lists = Lists::of_row(notes, own, row);
+        let lists = relations.to(row).lists(row);
         gather_before(&mut befores, lists, row);
         gather_after(&mut afters, lists, row);
     }
-    take(policy, range, befores.as_slice(), afters.as_slice())
+    choose(policy, range, befores.as_slice(), afters.as_slice())
+}
+
+// What a transaction takes of a range beside the rows that notes name with it.
+// Apart, since what the notes say is gathered in an array, and most validations have no note.
+#[inline(never)]
+fn take_beside<P: Policy>(
+    policy: &P,
+    range: Range,
+    notes: &[Note],
+    own: RowKey,
+    rows: &mut RowBook,
+) -> Option<(i32, i32)>
+    requires stamps { (pos 0 ≤ℤ range.lower) × (range.upper ≤ℤ pos TOP) }
+    ensures taken { result ≡ choice_beside (relation_of notes.now own.transaction own.ground) (P.chosen policy.now)
+        range.lower range.upper (lines_of rows.old.book) }
+    ensures rows { lines_of rows.new.book
+        ≡ rows_beside (relation_of notes.now own.transaction own.ground) result (lines_of rows.old.book) }
+    ensures stays { Stays rows.old.book rows.new.book }
+    ensures stamps { IfSome result IsOfStamps }
+{
+    let relations = Relations::of_notes(notes, own);
+    let left = Left::beside(range, &relations, rows.lines());
+    if !left.neighbours {
+        return choose(policy, left.range, &[], &[]);
+    }
+    let taken = choose_beside(policy, left.range, &relations, rows.lines())?;
+    rows.make_way(&relations, taken);
+    Some(taken)
+}
+
+/// What a transaction takes at its ground of a range of stamps, and which rows make way for it: what the policy chooses of what the notes
+/// leave, or nothing where they leave none. The policy is shown each row that has to make way, once, in the order of the row book.
+pub fn take<P: Policy>(
+    policy: &P,
+    range: Range,
+    notes: &[Note],
+    own: RowKey,
+    rows: &mut RowBook,
+) -> Option<(i32, i32)>
+    requires stamps { (pos 0 ≤ℤ range.lower) × (range.upper ≤ℤ pos TOP) }
+    ensures taken { result ≡ choice_beside (relation_of notes.now own.transaction own.ground) (P.chosen policy.now)
+        range.lower range.upper (lines_of rows.old.book) }
+    ensures rows { lines_of rows.new.book
+        ≡ rows_beside (relation_of notes.now own.transaction own.ground) result (lines_of rows.old.book) }
+    ensures stays { Stays rows.old.book rows.new.book }
+    ensures stamps { IfSome result IsOfStamps }
+{
+    let notes = notes_since(notes, own.transaction);
+    if notes.is_empty() {
+        choose(policy, range, &[], &[])
+    } else {
+        take_beside(policy, range, notes, own, rows)
+    }
+}
+
+/// What a validation's answer is for the row: it passes with the range taken, or fails where nothing is.
+pub fn event_of(taken: Option<(i32, i32)>) -> Event
+    ensures { result ≡ event_of taken }
+{
+    match taken {
+        Some((lower, upper)) => Event::Pass { lower, upper },
+        None => Event::Fail,
+    }
 }

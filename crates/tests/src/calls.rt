@@ -18,6 +18,7 @@ mod pairs;
 mod refusals;
 mod rooms;
 mod settling;
+mod skipped_numbers;
 mod unsettled;
 
 /// What a call is answered.

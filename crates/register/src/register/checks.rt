@@ -48,12 +48,10 @@ fn any_write(writes: &[WriteLine], transaction: u32) -> bool
     ensures { result ≡ list_any (is_write_of transaction) writes.now }
 {
     // From the end, where the lines of the transaction at hand lie.
-    for i in (0..writes.len()).rev() {
-        if writes[i].transaction == transaction {
-            return true;
-        }
-    }
-    false
+    writes
+        .iter()
+        .rev()
+        .any(|line| line.transaction == transaction)
 }
 
 // That a row is Running.

@@ -1,16 +1,17 @@
-use Rattle.std.proofs.Common.{◌≡◌, false, ◌<◌, ◌≤◌, length, get_or, set, Some, sym, ap, ◌∙◌, subst, arith}
+use Rattle.std.proofs.Common.{◌≡◌, ◌<◌, ◌≤◌, length, get_or, set, Some, sym, ap, ◌∙◌, subst, arith}
 use Rattle.std.proofs.lemmas.List.{length-set}
 use Rattle.std.proofs.lemmas.Option.{slice_get-get_or}
 use Rattle.book.specs.Books.{Stays, lines_of}
 use Rattle.lines.specs.LineKeys.{row_key}
 use Rattle.lines.specs.Rows.{IsBounded}
 use Rattle.protocol.specs.Among.{pushed_by}
-use Rattle.register.specs.Relations.{has_neighbours, pushed_beside}
+use Rattle.register.specs.Relations.{lists_by, pushed_beside}
 use Rattle.register.specs.Sound.{SoundRows}
+use Rattle.register.specs.Lookups.{relation_in}
 use Rattle.register.specs.declared.relation.Lists.{Lists}
 use Rattle.register.specs.declared.row_book.RowBook.{RowBook}
 use Rattle.register.proofs.Places.{held_set}
-use Rattle.register.proofs.Pushing.{push_more, push_all, pushed_bounded, none_pushed}
+use Rattle.register.proofs.Pushing.{push_more, push_all, pushed_bounded}
 use Rattle.register.proofs.Rows.{nth_holds, no_row, stays_on}
 use Rattle.register.proofs.Sound.{rows_sound, row_set}
 use Rattle.register.proofs.row_book.RowBook.make_way.Goals as goal
@@ -24,16 +25,16 @@ invariant_of-self c =
     let i = c.loop-place.place in
     let within : i < length rows = omega (arith, c.loop-place.invariant.long) in
     let row = c.in-Some.row in
-    let lists = c.of_row-lists.result in
-    let range = c.args.range in
+    let lists = c.lists-lists.result in
+    let range = c.args.taken in
     let read = sym c.in-Some.ensures in
     let same : Some row ≡ Some (get_or rows i row) = sym read ∙ slice_get-get_or rows i row within in
     let found : row ≡ get_or rows i row = cc in
     let sound = rows_sound rows self.sound in
-    let pushed = pushed_by lists.before lists.after (range.lower, range.upper) row in
+    let pushed = pushed_by lists.before lists.after range row in
     let written : lines_of c.set.new.self ≡ set rows i pushed =
     held_set i _ self.book _ c.set.result c.set.ensures.cases within ∙ ap (set rows i) c.push.ensures in
-    let bounded = pushed_bounded lists.before lists.after range.lower range.upper row c.requires.limits.least c.requires.limits.most
+    let bounded = pushed_bounded lists.before lists.after range.0 range.1 row c.requires.limits.least c.requires.limits.most
     (nth_holds IsBounded rows i row read within sound.bounded) in
     record {
       few = subst (λ n. n ≤ 256) (sym c.set.ensures.stays.room) self.few;
@@ -48,15 +49,14 @@ loop-place-preserved c =
     let count = c.len-place-end.ensures.value in
     let long = c.loop-place.invariant.long in
     let within : i < length rows = omega arith in
-    let range : _ × _ = (c.args.range.lower, c.args.range.upper) in
-    let own = c.args.own in
-    let way = pushed_beside c.args.notes.now own.transaction own.ground range in
+    let range = c.args.taken in
+    let way = pushed_beside (relation_in c.args.relations.now) range in
     elim c.match-get.branch [
       | in-Some w ↦
           let x = w.in-Some.row in
           let book : c.match-get.self.book ≡ w.set.new.self = ap (λ (b : RowBook). b.book) w.self-is in
           let pushed : w.push.result ≡ way x =
-          w.push.ensures ∙ ap (λ (l : Lists). pushed_by l.before l.after range x) w.of_row-lists.ensures in
+          w.push.ensures ∙ ap (λ (l : Lists). pushed_by l.before l.after range x) (w.lists-lists.ensures ∙ ap (λ q. lists_by q x) w.to.ensures) in
           let written : lines_of c.match-get.self.book ≡ set rows i (way x) =
           ap lines_of book
           ∙ (held_set i _ c.loop-place.self.book _ w.set.result w.set.ensures.cases within ∙ ap (set rows i) pushed) in
@@ -71,15 +71,6 @@ loop-place-preserved c =
 
 pub returns-clause-lines : goal.returns-clause-lines
 returns-clause-lines c =
-    let own = c.args.own in
     let count = c.len-place-end.ensures.value in
     c.loop-place.invariant.lines
-    ∙ push_all (pushed_beside c.args.notes.now own.transaction own.ground (c.args.range.lower, c.args.range.upper))
-    (lines_of c.args.self.now.book) c.loop-place.place (omega arith)
-
-pub returns-then-not-neighbours-clause-lines : goal.returns-then-not-neighbours-clause-lines
-returns-then-not-neighbours-clause-lines c =
-    let own = c.args.own in
-    let rows = lines_of c.args.self.now.book in
-    let none : has_neighbours c.args.notes.now own.transaction own.ground rows ≡ false = sym c.requires.neighbours ∙ c.if-not-neighbours.true in
-    sym (none_pushed c.args.notes.now own.transaction own.ground (c.args.range.lower, c.args.range.upper) rows none)
+    ∙ push_all (pushed_beside (relation_in c.args.relations.now) c.args.taken) (lines_of c.args.self.now.book) c.loop-place.place (omega arith)

@@ -125,14 +125,14 @@ ceiling_adds : (s : Option Side) (q : Relation) (r : Row) (b : ℤ)
 ceiling_adds s q r b = grind (arith, ints, clamps)
 
 module _ (notes : List Note) (t g : ℕ) (rows : List Row) (d : IsDistinct same_row (map row_key rows)) where
-  pub floors_same : (l : ℤ) → raised_above l (note_floors rows notes t g) ≡ raised_above l (floors_beside notes t g rows)
+  pub floors_same : (l : ℤ) → raised_above l (note_floors rows notes t g) ≡ raised_above l (floors_beside (relation_of notes t g) rows)
   floors_same l =
       sym (raised_is l (note_floors rows notes t g))
       ∙ (all_notes raise raise_turns effect_floor floors_by refl (λ r. grind arith) floor_adds t g notes rows d l
-      ∙ raised_is l (floors_beside notes t g rows))
+      ∙ raised_is l (floors_beside (relation_of notes t g) rows))
 
-  pub ceilings_same : (u : ℤ) → lowered_below u (note_ceilings rows notes t g) ≡ lowered_below u (ceilings_beside notes t g rows)
+  pub ceilings_same : (u : ℤ) → lowered_below u (note_ceilings rows notes t g) ≡ lowered_below u (ceilings_beside (relation_of notes t g) rows)
   ceilings_same u =
       sym (lowered_is u (note_ceilings rows notes t g))
       ∙ (all_notes lower lower_turns effect_ceiling ceilings_by refl (λ r. grind arith) ceiling_adds t g notes rows d u
-      ∙ lowered_is u (ceilings_beside notes t g rows))
+      ∙ lowered_is u (ceilings_beside (relation_of notes t g) rows))
