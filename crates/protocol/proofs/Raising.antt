@@ -1,5 +1,5 @@
 -- Bounds that are raised above some numbers, or lowered below some.
---   raised_append, lowered_append   by numbers and more numbers: by the first, then by the others
+--   raised_append                   by numbers and more numbers: by the first, then by the others
 --   raised_least, lowered_most      a bound that is raised does not sink; one that is lowered does not rise
 use Rattle.std.proofs.Common.{◌≡◌, List, [], ◌∷◌, ◌++◌, ℤ, ◌≤ℤ◌, refl, arith}
 use Rattle.std.proofs.lemmas.Int.{ints, clamps}
@@ -9,11 +9,6 @@ use Rattle.protocol.specs.Among.{raise, lower, raised_above, lowered_below}
 pub raised_append : (l : ℤ) (xs ys : List ℤ) → raised_above l (xs ++ ys) ≡ raised_above (raised_above l xs) ys
 raised_append l [] ys = refl
 raised_append l (x ∷ xs) ys = raised_append (raise l x) xs ys
-
--- Lowering below some numbers and others is lowering below the first, then below the others.
-pub lowered_append : (u : ℤ) (xs ys : List ℤ) → lowered_below u (xs ++ ys) ≡ lowered_below (lowered_below u xs) ys
-lowered_append u [] ys = refl
-lowered_append u (x ∷ xs) ys = lowered_append (lower u x) xs ys
 
 -- A lower bound that is raised does not sink.
 pub raised_least : (l : ℤ) (xs : List ℤ) → l ≤ℤ raised_above l xs
