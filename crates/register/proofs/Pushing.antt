@@ -2,10 +2,9 @@
 --   push_more         one more row has made way
 --   push_all          all have
 --   pushed_bounded    a row within its limits stays within them
---   none_pushed       where no row has to make way, all stay
+--   none_pushed       where no row is on a list, all stay
 --   placed_beside     rows that make way keep their places
---   no_befores, no_afters   and no row is on a list
-use Rattle.std.proofs.Common.{◌≡◌, ℕ, ◌+◌, ◌<◌, ◌≤◌, Bool, false, List, [], ◌∷◌, ◌++◌, map, length, get_or, take, drop, set, ℤ, pos, ◌≤ℤ◌, Some, None, Option, sym, refl, ap, ◌∙◌, cond, subst}
+use Rattle.std.proofs.Common.{◌≡◌, ℕ, ◌+◌, ◌<◌, ◌≤◌, Bool, List, [], ◌∷◌, ◌++◌, map, length, get_or, take, drop, set, ℤ, pos, ◌≤ℤ◌, Some, None, Option, sym, refl, ap, ◌∙◌, cond, subst}
 use Rattle.std.proofs.Common.{append-nil, arith}
 use Rattle.std.proofs.lemmas.List.Edits.{map_over_more}
 use Rattle.std.proofs.lemmas.List.{take_all, drop_all, length-map}
@@ -18,7 +17,7 @@ use Rattle.lines.specs.declared.row.Row.{Row}
 use Rattle.lines.specs.declared.row.RowKey.{RowKey}
 use Rattle.register.specs.Sound.{PlacedAt}
 use Rattle.protocol.specs.Among.{pushed_by}
-use Rattle.register.specs.Relations.{has_neighbours, befores_beside, afters_beside, pushed_beside, rows_beside}
+use Rattle.register.specs.Relations.{befores_beside, afters_beside, pushed_beside, rows_beside}
 use Rattle.register.specs.declared.relation.Relation.{Relation}
 
 module _ (makes_way : Row → Row) (xs : List Row) where
@@ -45,18 +44,10 @@ pushed_bounded before after from to r f t b = record {
 }
 
 module _ (q : Row → Relation) where
-  pub none_pushed : (range : ℤ × ℤ) (rows : List Row) → has_neighbours q rows ≡ false
+  pub none_pushed : (range : ℤ × ℤ) (rows : List Row) → befores_beside q rows ≡ [] → afters_beside q rows ≡ []
       → map (pushed_beside q range) rows ≡ rows
-  none_pushed range [] e = refl
-  none_pushed range (r ∷ rs) e = let later = none_pushed range rs in grind arith
-
-  pub no_befores : (rows : List Row) → has_neighbours q rows ≡ false → befores_beside q rows ≡ []
-  no_befores [] e = refl
-  no_befores (r ∷ rs) e = let later = no_befores rs in grind arith
-
-  pub no_afters : (rows : List Row) → has_neighbours q rows ≡ false → afters_beside q rows ≡ []
-  no_afters [] e = refl
-  no_afters (r ∷ rs) e = let later = no_afters rs in grind arith
+  none_pushed range [] b a = refl
+  none_pushed range (r ∷ rs) b a = let later = none_pushed range rs in grind arith
 
   -- Rows that make way keep their places.
   placed_pushed : (range : ℤ × ℤ) (rows : List Row) (k : RowKey) (i : ℕ) → PlacedAt rows k i

@@ -1,6 +1,6 @@
 -- A validation, once its checks have passed: what it leaves and answers.
 --   begun                            a check that also answers a place
---   meets_event                    a Running row passes, or fails
+--   meets_event                      a Running row passes, or fails
 --   taken_same                       row by row the same is taken as note by note
 --   validate_is                      what a validation comes to
 --   with_rows_is                     a register with other rows in a book of the same room

@@ -6,13 +6,11 @@
 --   floors_by q r               what the row r of the other raises the lower bound above, if it does
 --   ceilings_by q r             what it lowers the upper bound below, if it does
 --   lists_by q r                which of the two lists the row is on
---   has_lists                   the row is on one of them
 --   choice P l u befores afters  the range that a policy takes of the one from l to u, or nothing
 --   event_of                     what that is for the transaction's own row
 --  and of all rows, where q says what the notes say of each:
 --   floors_beside, ceilings_beside    all that rows raise a range above, and lower it below
 --   lists_of                    the lists of a row
---   has_neighbours              whether a row has to make way
 --   befores_beside, afters_beside     the lowers of the rows before and the uppers of the rows after
 --   pushed_beside               a row after a range was taken
 --   choice_beside, rows_beside   what is taken of a range beside rows, and the rows after that
@@ -87,10 +85,6 @@ ceilings_by q r = cond (is_past r.state && q.earlier) (r.lower ∷ []) []
 abbrev pub lists_by : Relation → Row → Lists
 lists_by q r = record { before = is_running r.state && q.later; after = is_running r.state && (q.earlier || q.apart) }
 
--- On one list at least.
-abbrev pub has_lists : Lists → Bool
-has_lists x = x.before || x.after
-
 -- What a policy takes of what is left, from l to u: nothing where nothing is.
 abbrev pub choice : Chooses → ℤ → ℤ → List ℤ → List ℤ → Option (ℤ × ℤ)
 choice P l u befores afters = cond (int_lt u l) None (Some (P l u befores afters))
@@ -112,10 +106,6 @@ module _ (q : Row → Relation) where
   -- The lists of a row.
   abbrev pub lists_of : Row → Lists
   lists_of r = lists_by (q r) r
-
-  -- Whether a row has to make way.
-  abbrev pub has_neighbours : List Row → Bool
-  has_neighbours rows = list_any (λ r. has_lists (lists_of r)) rows
 
   -- The lowers of the rows before.
   abbrev pub befores_beside : List Row → List ℤ

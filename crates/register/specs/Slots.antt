@@ -1,13 +1,12 @@
 -- What notes say of a transaction and of all others, each of whom has a slot by its number.
 --   names t n             the note n names the transaction t
---   since t notes         the notes from the first one on that names t
 --   side_at n t g         what the note n says of the transaction t at the ground g
 --   is_of o u, is_for s u   the slot s, which is o's, is empty or the transaction u's
 --   empty_slot            a slot before any note
 --   slot_with s u side    the slot s after one more note, which says this of the transaction and u
 --   IsSaid s r q          the slot s, if it is for the row r, says q of it
 --   AreTold slots notes k   so of every row of the ground: what the notes say of the transaction of the key k and of the row's
-use Rattle.std.specs.Prelude.{◌≡◌, ℕ, ◌%◌, Bool, true, ◌||◌, List, [], ◌∷◌, cond, Some, None, Option, ◌==◌, slice_index_or}
+use Rattle.std.specs.Prelude.{◌≡◌, ℕ, ◌%◌, Bool, true, ◌||◌, List, cond, Some, None, Option, ◌==◌, slice_index_or}
 use Rattle.base.specs.Keys.{ground_of}
 use Rattle.lines.specs.Notes.{side_of}
 use Rattle.lines.specs.declared.note.Note.{Note}
@@ -21,11 +20,6 @@ use Rattle.register.specs.declared.slots.Slot.{Slot}
 -- A transaction is one of the two parties.
 abbrev pub names : ℕ → Note → Bool
 names t n = n.first == t || n.second == t
-
--- The notes before the first that names it are left out.
-abbrev pub since : ℕ → List Note → List Note
-since t [] = []
-since t (n ∷ ns) = cond (names t n) (n ∷ ns) (since t ns)
 
 -- What a note says of a transaction at a ground, whoever the other is.
 abbrev pub side_at : Note → ℕ → ℕ → Option Side

@@ -5,7 +5,7 @@ ghost use Rattle.lines.specs.Rows.{IsBounded, is_past};
 ghost use Rattle.protocol.specs.Among.{other_party, pushed_by};
 ghost use Rattle.register.specs.Ranges.{above_all, below_all};
 ghost use Rattle.register.specs.Registers.{IsOfStamps};
-ghost use Rattle.register.specs.Relations.{said, unrelated, with_side, relation_of, floors_by, ceilings_by, lists_by, has_lists};
+ghost use Rattle.register.specs.Relations.{said, unrelated, with_side, relation_of, floors_by, ceilings_by, lists_by};
 ghost use Rattle.register.specs.Slots.{names, side_at};
 
 use crate::access::is_at;
@@ -169,13 +169,6 @@ pub struct Lists {
 }
 
 impl Lists {
-    /// Whether the row has to make way at all.
-    pub fn any(self) -> bool
-        ensures { result ≡ has_lists self }
-    {
-        self.before || self.after
-    }
-
     /// The row after a range was taken.
     pub fn push(self, row: Row, taken: (i32, i32)) -> Row
         requires { IsOfStamps taken }

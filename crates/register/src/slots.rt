@@ -2,22 +2,12 @@
 
 ghost use Rattle.std.specs.Prelude.{◌≡◌, ◌%◌};
 ghost use Rattle.register.specs.Relations.{relation_of};
-ghost use Rattle.register.specs.Slots.{since, is_for, slot_with, AreTold};
+ghost use Rattle.register.specs.Slots.{is_for, slot_with, AreTold};
 
-use crate::relation::{Relation, names, other_party, side_at};
+use crate::relation::{Relation, other_party, side_at};
 use lines::note::{Note, Side};
 use lines::row::{Row, RowKey};
 use lines::transaction::TRANSACTIONS;
-
-/// The notes from the first one on that names the transaction. Those before it say nothing of it.
-pub fn notes_since(notes: &[Note], transaction: u32) -> &[Note]
-    ensures { result.now ≡ since transaction notes.now }
-{
-    match notes.iter().position(|note| names(note, transaction)) {
-        Some(i) => &notes[i..],
-        None => &[],
-    }
-}
 
 // What the notes say of the transaction and of the first of those whose slot it is that they name; of nobody yet where it is empty.
 #[derive(Clone, Copy)]

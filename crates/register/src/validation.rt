@@ -1,21 +1,20 @@
 // What a validation takes of the stamps that are left to a transaction at a ground, beside the rows that notes name with it.
 
-ghost use Rattle.std.specs.Prelude.{◌≡◌, ◌≤◌, ◌<◌, ◌||◌, [], ◌∷◌, ◌++◌, cond, pos, ◌≤ℤ◌, length, IfSome};
+ghost use Rattle.std.specs.Prelude.{◌≡◌, ◌≤◌, ◌<◌, [], ◌∷◌, ◌++◌, cond, pos, ◌≤ℤ◌, length, IfSome};
 ghost use Rattle.std.specs.List.{AllByRecursion};
 ghost use Rattle.base.specs.declared.stamp.TheConstants.{TOP};
 ghost use Rattle.book.specs.Books.{Stays, lines_of};
 ghost use Rattle.lines.specs.Rows.{IsBounded};
 ghost use Rattle.protocol.specs.Among.{raised_above, lowered_below};
+ghost use Rattle.register.specs.Lookups.{relation_in};
 ghost use Rattle.register.specs.Registers.{IsOfStamps};
 ghost use Rattle.register.specs.Relations.{
   relation_of,
-  lists_of,
-  has_lists,
   floors_by,
   ceilings_by,
+  lists_by,
   floors_beside,
   ceilings_beside,
-  has_neighbours,
   befores_beside,
   afters_beside,
   choice,
@@ -23,56 +22,15 @@ ghost use Rattle.register.specs.Relations.{
   rows_beside,
   event_of,
 };
-ghost use Rattle.register.specs.Lookups.{relation_in};
 
 use crate::gathered::Gathered;
 use crate::range::Range;
-use crate::relation::Lists;
+use crate::relation::{Lists, Relation, names};
 use crate::row_book::RowBook;
-use crate::slots::{Relations, notes_since};
+use crate::slots::Relations;
 use lines::note::Note;
 use lines::row::{Event, ROWS, Row, RowKey};
 use policy::Policy;
-
-// What is left to the transaction that is validated, and whether a row has to make way for it.
-#[derive(Clone, Copy)]
-struct Left {
-    range: Range,
-    neighbours: bool,
-}
-
-impl Left {
-    // Beside one more row.
-    fn beside_row(self, relations: &Relations, row: &Row) -> Left
-        requires { IsBounded row.now }
-        ensures lower { result.range.lower ≡ raised_above self.range.lower (floors_by (relation_in relations.now row.now) row.now) }
-        ensures upper { result.range.upper ≡ lowered_below self.range.upper (ceilings_by (relation_in relations.now row.now) row.now) }
-        ensures neighbours { result.neighbours ≡ (self.neighbours || has_lists (lists_of (relation_in relations.now) row.now)) }
-    {
-        let relation = relations.to(row);
-        Left {
-            range: relation.narrow(self.range, row),
-            neighbours: self.neighbours || relation.lists(row).any(),
-        }
-    }
-
-    // What is left of a range beside the rows of the ground, each of which is gone over once.
-    fn beside(range: Range, relations: &Relations, rows: &[Row]) -> Left
-        requires { AllByRecursion IsBounded rows.now }
-        ensures lower { result.range.lower ≡ raised_above range.lower (floors_beside (relation_in relations.now) rows.now) }
-        ensures upper { result.range.upper ≡ lowered_below range.upper (ceilings_beside (relation_in relations.now) rows.now) }
-        ensures neighbours { result.neighbours ≡ has_neighbours (relation_in relations.now) rows.now }
-    {
-        let mut left = Left {
-            range,
-            neighbours: false,
-        };
-        for row in rows {
-            left = left.beside_row(relations, row);
-        }
-        left
-    }
-}
 
 // Adds the lower bound of a row to those of the rows before, if it is one.
 fn gather_before(befores: &mut Gathered<i32, ROWS>, lists: Lists, row: &Row)
@@ -111,33 +69,53 @@ fn choose<P: Policy>(
     Some(policy.choose(range.lower, range.upper, befores, afters))
 }
 
-// What it takes where some row has to make way. It is shown each row once, in the order of the row book.
-// Apart, since the two lists are as large as a book of rows.
-#[inline(never)]
-fn choose_beside<P: Policy>(
-    policy: &P,
+// What one more row leaves of a range; its bounds go into the lists that it is on.
+fn look_at(
+    range: Range,
+    relation: Relation,
+    row: &Row,
+    befores: &mut Gathered<i32, ROWS>,
+    afters: &mut Gathered<i32, ROWS>,
+) -> Range
+    requires few { (length befores.old < 256) × (length afters.old < 256) }
+    requires bounded { IsBounded row.now }
+    ensures lower { result.lower ≡ raised_above range.lower (floors_by relation row.now) }
+    ensures upper { result.upper ≡ lowered_below range.upper (ceilings_by relation row.now) }
+    ensures befores { befores.new ≡ befores.old ++ cond (lists_by relation row.now).before (row.now.lower ∷ []) [] }
+    ensures afters { afters.new ≡ afters.old ++ cond (lists_by relation row.now).after (row.now.upper ∷ []) [] }
+{
+    let lists = relation.lists(row);
+    gather_before(befores, lists, row);
+    gather_after(afters, lists, row);
+    relation.narrow(range, row)
+}
+
+// What rows leave of a range, each of which is gone over once; the bounds of those that have to make way go into the two lists.
+fn look_over(
     range: Range,
     relations: &Relations,
     rows: &[Row],
-) -> Option<(i32, i32)>
+    befores: &mut Gathered<i32, ROWS>,
+    afters: &mut Gathered<i32, ROWS>,
+) -> Range
+    requires empty { (befores.old ≡ []) × (afters.old ≡ []) }
     requires few { length rows.now ≤ 256 }
-    requires stamps { (pos 0 ≤ℤ range.lower) × (range.upper ≤ℤ pos TOP) }
-    ensures taken { result ≡ choice (P.chosen policy.now) range.lower range.upper
-        (befores_beside (relation_in relations.now) rows.now) (afters_beside (relation_in relations.now) rows.now) }
-    ensures stamps { IfSome result IsOfStamps }
+    requires bounded { AllByRecursion IsBounded rows.now }
+    ensures lower { result.lower ≡ raised_above range.lower (floors_beside (relation_in relations.now) rows.now) }
+    ensures upper { result.upper ≡ lowered_below range.upper (ceilings_beside (relation_in relations.now) rows.now) }
+    ensures befores { befores.new ≡ befores_beside (relation_in relations.now) rows.now }
+    ensures afters { afters.new ≡ afters_beside (relation_in relations.now) rows.now }
 {
-    let mut befores: Gathered<i32, ROWS> = Gathered::new(0);
-    let mut afters: Gathered<i32, ROWS> = Gathered::new(0);
+    let mut left = range;
     for row in rows {
-        let lists = relations.to(row).lists(row);
-        gather_before(&mut befores, lists, row);
-        gather_after(&mut afters, lists, row);
+        left = look_at(left, relations.to(row), row, befores, afters);
     }
-    choose(policy, range, befores.as_slice(), afters.as_slice())
+    left
 }
 
-// What a transaction takes of a range beside the rows that notes name with it.
-// Apart, since what the notes say is gathered in an array, and most validations have no note.
+// What a transaction takes of a range beside the rows of its ground, of which some note speaks. The policy is shown those that have to
+// make way in the order of the row book.
+// Apart, since what notes say and the two lists lie in arrays, and most validations have no note.
 #[inline(never)]
 fn take_beside<P: Policy>(
     policy: &P,
@@ -155,17 +133,18 @@ fn take_beside<P: Policy>(
     ensures stamps { IfSome result IsOfStamps }
 {
     let relations = Relations::of_notes(notes, own);
-    let left = Left::beside(range, &relations, rows.lines());
-    if !left.neighbours {
-        return choose(policy, left.range, &[], &[]);
+    let mut befores: Gathered<i32, ROWS> = Gathered::new(0);
+    let mut afters: Gathered<i32, ROWS> = Gathered::new(0);
+    let left = look_over(range, &relations, rows.lines(), &mut befores, &mut afters);
+    let taken = choose(policy, left, befores.as_slice(), afters.as_slice())?;
+    if !befores.as_slice().is_empty() || !afters.as_slice().is_empty() {
+        rows.make_way(&relations, taken);
     }
-    let taken = choose_beside(policy, left.range, &relations, rows.lines())?;
-    rows.make_way(&relations, taken);
     Some(taken)
 }
 
 /// What a transaction takes at its ground of a range of stamps, and which rows make way for it: what the policy chooses of what the notes
-/// leave, or nothing where they leave none. The policy is shown each row that has to make way, once, in the order of the row book.
+/// leave, or nothing where they leave none. Where no note names the transaction, all is left and no row is looked at.
 pub fn take<P: Policy>(
     policy: &P,
     range: Range,
@@ -181,11 +160,10 @@ pub fn take<P: Policy>(
     ensures stays { Stays rows.old.book rows.new.book }
     ensures stamps { IfSome result IsOfStamps }
 {
-    let notes = notes_since(notes, own.transaction);
-    if notes.is_empty() {
-        choose(policy, range, &[], &[])
-    } else {
+    if notes.iter().any(|note| names(note, own.transaction)) {
         take_beside(policy, range, notes, own, rows)
+    } else {
+        choose(policy, range, &[], &[])
     }
 }
 
