@@ -12,4 +12,4 @@ pub use boundary::check_boundary;
 pub use fault::{Cause, Fault};
 pub use flat::{Flat, check_flat};
 pub use sparse::{Sparse, check_sparse};
-pub use stored_line::{FLAT_LINES, SPARSE_LINES};
+pub use stored_line::{FLAT_LINES, SPARSE_LINES, limits_are_numbers};

@@ -17,6 +17,12 @@ pub const FLAT_LINES: usize = 8192;
 /// How many lines a sparse store has at most.
 pub const SPARSE_LINES: usize = 4096;
 
+/// Both limits as numbers: what is said of stores goes by the constants, which this holds. A law: it does nothing.
+pub fn limits_are_numbers()
+    ensures flat { FLAT_LINES ≡ 8192 }
+    ensures sparse { SPARSE_LINES ≡ 4096 }
+{}
+
 // A line of a store, as an array of its words.
 pub(crate) trait StoredLine: Copy {
     // What is wrong first with a line that comes after another, if any.

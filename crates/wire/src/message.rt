@@ -17,6 +17,12 @@ pub const MAX_PAIRS: usize = 64;
 /// The largest number of a transaction that a head has room for.
 pub const MAX_TRANSACTION: u32 = 4095;
 
+/// Both limits as numbers: what is said of messages goes by the constants, which this holds. A law: it does nothing.
+pub fn limits_are_numbers()
+    ensures pairs { MAX_PAIRS ≡ 64 }
+    ensures transactions { MAX_TRANSACTION ≡ 4095 }
+{}
+
 /// A call as words say it: a transaction (0 to MAX_TRANSACTION where words say it), and a key, a ground (any sixteen bits), or the words of a
 /// prewrite's pairs (1 to MAX_PAIRS), key and value in turn, which are a part of the words that the message was read from.
 #[derive(Clone, Copy, PartialEq, Eq, Debug)]
