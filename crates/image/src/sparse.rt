@@ -47,7 +47,8 @@ impl<'a> Sparse<'a> {
         ensures value { result ≡ sparse_line self.now.good self.now.words.now key }
         ensures bound { IfSome result (λ i. i < length self.now.words.now / 4) }
     {
-        if !self.good {
+        // A store without lines is seen before the search, which would ask at every key.
+        if !self.good || self.words.is_empty() {
             return None;
         }
         let (lines, _) = self.words.as_chunks::<4>();

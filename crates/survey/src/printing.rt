@@ -145,6 +145,9 @@ pub fn run<R: io::Read, W: io::Write, E: io::Write>(
 {
     let mut bytes = Vec::new(heap);
     input.read_to_end(&mut bytes)?;
-    let (mut words, left) = image_words(heap, &bytes)?;
+    let Ok((mut words, left)) = image_words(heap, &bytes) else {
+        // In the words of the allocation that failed: reading says another thing where it has no memory.
+        return Err(io::Error::new(io::ErrorKind::OutOfMemory, "memory allocation failed"));
+    };
     print_image(&mut words, left, out, errors)
 }
