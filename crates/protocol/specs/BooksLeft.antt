@@ -12,7 +12,7 @@ use Rattle.protocol.specs.Calls.{register_after}
 use Rattle.protocol.specs.Cases.{Case, calls_of, cells_at, top}
 use Rattle.protocol.specs.Model.{Model, new}
 use Rattle.protocol.specs.Noting.{before_note, apart_note}
-use Rattle.protocol.specs.RefusedCalls.{prewrite_again}
+use Rattle.protocol.specs.RefusedCalls.{prewrite_replaced}
 use Rattle.protocol.specs.Worked.{beside_validated, reader_writer_whole, reader_writer_near, two_writers, ranges_apart, last_stamp_taken}
 
 -- The register after a case.
@@ -46,7 +46,7 @@ pub record BooksLeft : Type 0 where
       (row 1 0 Validated 1 1024 ∷ row 2 1 Validated 1 1024 ∷ row 1 1 Validated 1025 top ∷ row 2 0 Running 1025 top ∷ [])
       (before_note 8192 2 1 ∷ before_note 0 1 2 ∷ [])
   pub last_stamp_taken : Leaves last_stamp_taken (row 1 0 Aborted 0 top ∷ []) []
-  pub prewrite_again : Leaves prewrite_again
+  pub prewrite_replaced : Leaves prewrite_replaced
       (row 1 0 Committed 1 1 ∷ row 2 0 Validated 1025 top ∷ [])
       (apart_note 0 2 1 ∷ [])
   pub pushed_down : Leaves pushed_down (row 1 0 Aborted 0 0 ∷ row 2 0 Aborted 1 1024 ∷ []) (before_note 0 1 2 ∷ [])

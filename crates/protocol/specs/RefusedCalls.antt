@@ -95,9 +95,9 @@ read_again = record {
   ends = (0, ((pos 50), 1, 0)) ∷ (8192, ((pos 0), 0, 0)) ∷ [];
 }
 
--- A second prewrite of a key replaces the value.
-abbrev pub prewrite_again : Case
-prewrite_again = record {
+-- A second prewrite of a key replaces the value and writes no note: the first writer's cell has the later value.
+abbrev pub prewrite_replaced : Case
+prewrite_replaced = record {
   cells = (0, cell (pos 0) 0 0) ∷ [];
   rooms = full;
   policy = near_range;
@@ -106,6 +106,19 @@ prewrite_again = record {
       (Prewrite 1 0 (pos 11), ok) ∷ (Validate 1 0, range 1 1024) ∷ (Validate 2 0, range 1025 top) ∷
       (Decide 2, commit 1025) ∷ (Decide 1, commit 1) ∷ (Settle 1 0, ok) ∷ [];
   ends = (0, ((pos 11), 1, 0)) ∷ [];
+}
+
+-- The same day to its end: the second writer settles, and its stamp is larger.
+abbrev pub prewrite_again : Case
+prewrite_again = record {
+  cells = (0, cell (pos 0) 0 0) ∷ [];
+  rooms = full;
+  policy = near_range;
+  script =
+      (Begin 1, ok) ∷ (Begin 2, ok) ∷ (Prewrite 1 0 (pos 10), ok) ∷ (Prewrite 2 0 (pos 20), ok) ∷
+      (Prewrite 1 0 (pos 11), ok) ∷ (Validate 1 0, range 1 1024) ∷ (Validate 2 0, range 1025 top) ∷
+      (Decide 2, commit 1025) ∷ (Decide 1, commit 1) ∷ (Settle 1 0, ok) ∷ (Settle 2 0, ok) ∷ [];
+  ends = (0, ((pos 20), 1025, 0)) ∷ [];
 }
 
 -- A book without room refuses before anything is written; a second read or prewrite needs no line.
@@ -142,4 +155,4 @@ room_of_each_book = record {
 abbrev pub refused_calls : List Case
 refused_calls =
     numbers ∷ never_begun ∷ order_of_checks ∷ earlier_check ∷ one_row_aborted ∷
-    read_again ∷ prewrite_again ∷ little_room ∷ room_of_each_book ∷ []
+    read_again ∷ prewrite_replaced ∷ prewrite_again ∷ little_room ∷ room_of_each_book ∷ []
