@@ -13,6 +13,7 @@ mod Tallying
 pub mod Registers
 -- Two transactions at a ground.
 mod Relating
+mod Entering
 mod Telling
 mod Bounding
 mod Joining

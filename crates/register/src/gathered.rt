@@ -1,4 +1,4 @@
-ghost use Rattle.std.specs.Prelude.{◌≡◌, ◌<◌, ◌≤◌, List, [], ◌∷◌, ◌++◌, length, take};
+ghost use Rattle.std.specs.Prelude.{◌≡◌, ◌<◌, ◌≤◌, List, [], ◌∷◌, ◌++◌, length, take, set};
 
 use std::marker::Model;
 
@@ -37,6 +37,14 @@ impl<T: Copy, const N: usize> Gathered<T, N> {
     {
         self.values[self.count] = value;
         self.count += 1;
+    }
+
+    /// Puts a value in the place of another.
+    pub fn set(&mut self, place: usize, value: T)
+        requires { place < length self.old }
+        ensures { self.new ≡ set self.old place value }
+    {
+        self.values[..self.count][place] = value;
     }
 
     /// The values, in their order.
