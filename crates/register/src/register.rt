@@ -1,4 +1,5 @@
-ghost use Rattle.book.specs.Books.{lines_of};
+ghost use Rattle.std.specs.Prelude.{◌≤◌};
+ghost use Rattle.book.specs.Books.{lines_of, room};
 ghost use Rattle.register.specs.Sound.{SoundLines};
 
 use crate::row_book::RowBook;
@@ -20,7 +21,8 @@ mod settle;
 mod validate;
 
 /// A register: the cells of a store, and five books in memory that the caller lends. Its type says what its calls keep: numbers of
-/// transactions rise, a transaction has one read line and one write line of a key, and one row at a ground.
+/// transactions rise, a transaction has one read line and one write line of a key, and one row at a ground; and no book of reads or writes
+/// has room for more than 512 lines.
 #[derive(Drop)]
 pub struct Register<'a, S, P> {
     store: S,
@@ -31,6 +33,7 @@ pub struct Register<'a, S, P> {
     writes: Book<'a, WriteLine>,
     notes: Book<'a, Note>,
     ghost sound: { ∥ SoundLines (lines_of transactions) (lines_of reads) (lines_of writes) ∥₁ },
+    ghost limits: { (room reads ≤ 512) × (room writes ≤ 512) },
 }
 
 impl<'a, S: Store, P: Policy> Register<'a, S, P> {

@@ -9,7 +9,7 @@ invariant_of-self g c =
     let self = c.args.self.now in
     let above = number_above (model g.S.Store.cells self) c.args.transaction c.in_ok-check_number.field-0
     (sym c.check_number.ensures ∙ c.in_ok-check_number.was) in
-    record { sound = begun_kept self _ c.add.new.self c.add.result c.add.ensures.cases above }
+    record { sound = begun_kept self _ c.add.new.self c.add.result c.add.ensures.cases above; limits = self.limits }
 
 pub returns-clause-refused : goal.returns-clause-refused
 returns-clause-refused g c =

@@ -11,7 +11,7 @@ use Rattle.register.specs.Registers.{model}
 use Rattle.register.specs.Sound.{SoundLines}
 use Rattle.register.proofs.Found.{finds_write}
 use Rattle.register.proofs.Places.{held_set, replaced_at, there_at}
-use Rattle.register.proofs.Registers.{same_lines, refuses}
+use Rattle.register.proofs.Registers.{same_lines, room_within, refuses}
 use Rattle.register.proofs.Rows.{stays_on}
 use Rattle.register.proofs.Sound.{lines_sound, write_added, write_replaced}
 use Rattle.register.proofs.register.Register.prewrite.Goals as goal
@@ -29,6 +29,7 @@ invariant_of-self g c =
       sound =
           ∣ subst (λ ws. SoundLines m.transactions m.reads ws) (sym lines)
           (write_replaced m.transactions m.reads m.writes (lines_sound m.transactions m.reads m.writes self.sound) _) ∣₁;
+      limits = (self.limits.0, room_within _ _ 512 c.set.ensures.stays self.limits.1);
     }
 
 pub returns-in-Some-clause-model : goal.returns-in-Some-clause-model
@@ -54,7 +55,7 @@ returns-in_err-check_prewrite_room-clause-model g c =
 
 pub returns-in_err-check_prewrite_room-clause-refused : goal.returns-in_err-check_prewrite_room-clause-refused
 returns-in_err-check_prewrite_room-clause-refused g c =
-    refuses _ (same_lines _ _)
+    refuses _ (same_lines _ _ _)
 
 pub invariant_of-self-2 : goal.invariant_of-self-2
 invariant_of-self-2 g c =
@@ -66,6 +67,7 @@ invariant_of-self-2 g c =
       sound =
           ∣ subst (λ ws. SoundLines m.transactions m.reads ws) (sym c.add_line.ensures.lines)
           (write_added m.transactions m.reads m.writes (lines_sound m.transactions m.reads m.writes self.sound) _ none) ∣₁;
+      limits = (self.limits.0, room_within _ _ 512 c.add_line.ensures.stays self.limits.1);
     }
 
 pub returns-clause-model : goal.returns-clause-model

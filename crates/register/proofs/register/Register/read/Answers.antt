@@ -11,7 +11,7 @@ use Rattle.register.specs.Registers.{model}
 use Rattle.register.specs.Sound.{SoundLines}
 use Rattle.register.proofs.Accessing.{all_met, read_notes}
 use Rattle.register.proofs.Found.{finds_read}
-use Rattle.register.proofs.Registers.{same_lines, refuses}
+use Rattle.register.proofs.Registers.{same_lines, room_within, refuses}
 use Rattle.register.proofs.Sound.{lines_sound, read_added}
 use Rattle.register.proofs.register.Register.read.Goals as goal
 
@@ -35,7 +35,7 @@ returns-in_err-check_read_room-clause-model g c =
 
 pub returns-in_err-check_read_room-clause-refused : goal.returns-in_err-check_read_room-clause-refused
 returns-in_err-check_read_room-clause-refused g c =
-    refuses _ (same_lines _ _)
+    refuses _ (same_lines _ _ _)
 
 pub invariant_of-self-2 : goal.invariant_of-self-2
 invariant_of-self-2 g c =
@@ -47,6 +47,7 @@ invariant_of-self-2 g c =
       sound =
           ∣ subst (λ rs. SoundLines m.transactions rs m.writes) (sym c.add_line.ensures.lines)
           (read_added m.transactions m.reads m.writes (lines_sound m.transactions m.reads m.writes self.sound) _ none) ∣₁;
+      limits = (room_within _ _ 512 c.add_line.ensures.stays self.limits.0, self.limits.1);
     }
 
 pub returns-clause-model : goal.returns-clause-model

@@ -17,6 +17,7 @@ invariant_of-self g c =
     record {
       sound =
           ∣ subst (λ xs. SoundLines xs rs ws) (sym lines) (decided ts rs ws (lines_sound ts rs ws self.sound) c.args.transaction _ refl) ∣₁;
+      limits = self.limits;
     }
 
 pub returns-clause-model : goal.returns-clause-model

@@ -9,7 +9,7 @@ use Rattle.register.proofs.Settlements.{settled_is, paid, no_commit}
 use Rattle.register.proofs.register.Register.settle.Goals as goal
 
 pub returns-in_default-clause-refused : goal.returns-in_default-clause-refused
-returns-in_default-clause-refused g c = same_lines _ _
+returns-in_default-clause-refused g c = same_lines _ _ _
 
 pub returns-in_err-move_row-clause-refused : goal.returns-in_err-move_row-clause-refused
 returns-in_err-move_row-clause-refused g c =

@@ -23,10 +23,10 @@ use Rattle.register.proofs.Validating.{begun, meets_event, taken_same, validate_
 use Rattle.register.proofs.register.Register.validate.Goals as goal
 
 pub returns-in_default-clause-refused : goal.returns-in_default-clause-refused
-returns-in_default-clause-refused g c = same_lines _ _
+returns-in_default-clause-refused g c = same_lines _ _ _
 
 pub returns-in_err-check_running-clause-refused : goal.returns-in_err-check_running-clause-refused
-returns-in_err-check_running-clause-refused g c = refuses _ (same_lines _ _)
+returns-in_err-check_running-clause-refused g c = refuses _ (same_lines _ _ _)
 
 pub take-taken-requires : goal.take-taken-requires
 take-taken-requires g c =
